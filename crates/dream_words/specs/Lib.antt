@@ -1,0 +1,4 @@
+pub mod Memory
+pub mod Ranges
+pub mod Same
+pub mod Agreement

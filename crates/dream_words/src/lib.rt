@@ -1,0 +1,14 @@
+//! The words that every meaning is told in: registers, flags, memories, what a run starts from,
+//! what its calls are answered, and how it ends. It is given nothing and rests on no other crate.
+//! It promises that a memory reads and changes just the named bytes, and that agreements compose.
+#![tactic(auto)]
+
+mod laws;
+mod machine;
+mod memory;
+mod outcome;
+
+pub use laws::agreements_compose;
+pub use machine::{Bit, Flags, Name, Regs, Width};
+pub use memory::Memory;
+pub use outcome::{Answer, Call, Outcome, Start};

@@ -1,0 +1,64 @@
+//! The parts of a machine's state that are words.
+
+/// The width of an access to memory: 1, 2 or 4 bytes.
+#[derive(Clone, Copy, Debug, PartialEq, Eq)]
+pub enum Width {
+    /// One byte.
+    B,
+    /// Two bytes.
+    H,
+    /// Four bytes.
+    W,
+}
+
+/// What a statement reads or sets.
+///
+/// Registers 0 to 7 are eax, ecx, edx, ebx, esp, ebp, esi and edi, in the order of Intel's encoding;
+/// flags 0 to 4 are the carry, parity, zero, sign and overflow flag. A register or a flag with
+/// another number stands in no text: it is 0, and to set it changes nothing.
+#[derive(Clone, Copy, Debug, PartialEq, Eq)]
+pub enum Name {
+    Reg(u8),
+    Flag(u8),
+    /// The base of the segment FS.
+    Fs,
+    /// The base of the segment GS.
+    Gs,
+    /// A local for words.
+    T(u32),
+    /// A local for the outcome of a test.
+    B(u32),
+    /// A local that selects where a loop goes on.
+    S(u32),
+}
+
+/// The eight general registers (Intel SDM vol. 1, 3.4.1).
+#[derive(Clone, Copy, Debug, PartialEq, Eq)]
+pub struct Regs {
+    pub eax: u32,
+    pub ecx: u32,
+    pub edx: u32,
+    pub ebx: u32,
+    pub esp: u32,
+    pub ebp: u32,
+    pub esi: u32,
+    pub edi: u32,
+}
+
+/// A flag, which some instructions leave undefined.
+#[derive(Clone, Copy, Debug, PartialEq, Eq)]
+pub enum Bit {
+    Zero,
+    One,
+    Undefined,
+}
+
+/// The carry, parity, zero, sign and overflow flag (Intel SDM vol. 1, 3.4.3.1).
+#[derive(Clone, Copy, Debug, PartialEq, Eq)]
+pub struct Flags {
+    pub c: Bit,
+    pub p: Bit,
+    pub z: Bit,
+    pub s: Bit,
+    pub o: Bit,
+}
