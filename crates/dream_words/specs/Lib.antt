@@ -1,3 +1,5 @@
+pub mod Words
+pub mod Registers
 pub mod Memory
 pub mod Ranges
 pub mod Same
