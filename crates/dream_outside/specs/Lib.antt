@@ -1,0 +1,3 @@
+pub mod Causes
+pub mod MemFiles
+pub mod MemSink
