@@ -1,5 +1,5 @@
 -- Registers and flags by their numbers (Intel SDM vol. 2, 2.1.5, table 2-2).
-use Rattle.std.specs.Prelude.{ℕ, nat_eq, Bool, if◌then◌else◌}
+use Rattle.std.specs.Prelude.{ℕ, nat_eq, if◌then◌else◌}
 use Rattle.dream_words.specs.declared.machine.Regs.{Regs}
 use Rattle.dream_words.specs.declared.machine.Bit.{Bit}
 use Rattle.dream_words.specs.declared.machine.Bit.TheVariants.{Zero, One, Undefined}

@@ -5,5 +5,4 @@ ghost use Rattle.dream_words.specs.Agreement.{AgreementsCompose};
 /// What agrees with a meaning agrees with what follows that meaning.
 pub fn agreements_compose()
     ensures { AgreementsCompose }
-{
-}
+{}

@@ -7,6 +7,7 @@ mod laws;
 mod machine;
 mod memory;
 mod outcome;
+mod tree;
 
 pub use laws::agreements_compose;
 pub use machine::{Bit, Flags, Name, Regs, Width};

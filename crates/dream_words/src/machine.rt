@@ -1,5 +1,7 @@
 //! The parts of a machine's state that are words.
 
+ghost use Rattle.std.specs.Prelude.{◌≡◌};
+
 /// The width of an access to memory: 1, 2 or 4 bytes.
 #[derive(Clone, Copy, Debug, PartialEq, Eq)]
 pub enum Width {
@@ -9,6 +11,21 @@ pub enum Width {
     H,
     /// Four bytes.
     W,
+}
+
+impl Width {
+    ghost use Rattle.dream_words.specs.Memory.{bytes_of};
+
+    /// How many bytes an access takes.
+    pub fn bytes(self) -> usize
+        ensures { result ≡ bytes_of self }
+    {
+        match self {
+            Width::B => 1,
+            Width::H => 2,
+            Width::W => 4,
+        }
+    }
 }
 
 /// What a statement reads or sets.

@@ -48,7 +48,9 @@ pub enum Outcome {
         calls: Items<Call>,
     },
     /// The last of the calls has no answer.
-    Asking { calls: Items<Call> },
+    Asking {
+        calls: Items<Call>,
+    },
     /// The machine took a step of which nothing is said.
     Strayed,
     /// No instruction begins where the machine stands.
@@ -56,5 +58,7 @@ pub enum Outcome {
     /// The C text did what C leaves undefined.
     Stuck,
     /// The bound was reached first.
-    Going { calls: Items<Call> },
+    Going {
+        calls: Items<Call>,
+    },
 }

@@ -1,0 +1,13 @@
+pub mod Words
+pub mod Value
+pub mod Run
+pub mod RunLaws
+pub mod AsC
+pub mod Lex
+pub mod Spelling
+pub mod Tokens
+pub mod Text
+pub mod Depth
+pub mod Formed
+pub mod Stands
+pub mod Prints
