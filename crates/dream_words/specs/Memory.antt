@@ -49,7 +49,7 @@ place m a [] = m
 place m a (v ∷ vs) = place (with_byte m (a % 2 ^ 32) v) (a + 1) vs
 
 -- how many numbers below n pass a test
-abbrev pub count_below : ℕ → (ℕ → Bool) → ℕ
+unfoldable pub count_below : ℕ → (ℕ → Bool) → ℕ
 count_below zero test = 0
 count_below (suc n) test = count_below n test + (if test n then 1 else 0)
 

@@ -1,7 +1,7 @@
 //! Memories.
 
 ghost use Rattle.std.specs.Prelude.{◌≡◌, ◌+◌, ◌^◌, ◌≤◌, length, IfOk, OnOk, OnErr};
-ghost use Rattle.dream_words.specs.Memory.{byte_at, no_bytes, load, store, place, bytes_of};
+ghost use Rattle.dream_words.specs.Memory.{byte_at, no_bytes, load, store, place, bytes_of, differences};
 
 use crate::machine::Width;
 use crate::tree;
@@ -45,7 +45,7 @@ impl Memory {
     pub fn byte(&self, a: u32) -> u8
         ensures { result ≡ byte_at self.now a }
     {
-        self.bytes.get(&a).copied().unwrap_or(0)
+        tree::byte(&self.bytes, a)
     }
     /// The little-endian word at an address, from 1, 2 or 4 bytes; their addresses wrap around.
     pub fn load(&self, a: u32, w: Width) -> u32
@@ -89,5 +89,11 @@ impl Memory {
         Ok(Memory {
             bytes: self.bytes.clone()?,
         })
+    }
+    /// At how many addresses two memories have different bytes.
+    pub fn differs(&self, other: &Memory) -> u64
+        ensures { result ≡ differences self.now other.now }
+    {
+        tree::differences(&self.bytes, &other.bytes)
     }
 }

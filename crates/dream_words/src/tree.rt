@@ -1,9 +1,9 @@
 //! The bytes that a memory keeps, in a tree by address.
 
-ghost use Rattle.std.specs.Prelude.{◌≡◌, ℕ, ◌+◌, ◌%◌, ◌^◌, ◌<◌, length, OnOk, OnErr};
+ghost use Rattle.std.specs.Prelude.{◌≡◌, ℕ, ◌+◌, ◌%◌, ◌^◌, ◌<◌, ◌==◌, ◌&&◌, not, is_some, length, All, count_by, OnOk, OnErr};
 ghost use Rattle.std.specs.Ordering.{nat_cmp};
-ghost use Rattle.std.specs.BTreeMap.{ContainsKey, keys};
-ghost use Rattle.dream_words.specs.Memory.{seen, with_byte, place};
+ghost use Rattle.std.specs.BTreeMap.{ContainsKey, IsOrdered, keys, get};
+ghost use Rattle.dream_words.specs.Memory.{byte_at, differences, place, seen, with_byte};
 
 use std::alloc::AllocError;
 use std::collections::BTreeMap;
@@ -38,7 +38,7 @@ fn make_room_at(tree: &mut BTreeMap<u32, u8>, a: u32) -> Result<(), AllocError>
     ensures room { OnOk result (ContainsKey nat_cmp tree.new a) }
     ensures keeps { (q : ℕ) → ContainsKey nat_cmp tree.old q → ContainsKey nat_cmp tree.new q }
 {
-    if !tree.contains_key(&a) {
+    if !keeps(tree, a) {
         tree.insert(a, 0)?;
     }
     Ok(())
@@ -65,4 +65,57 @@ fn overwrite_at(tree: &mut BTreeMap<u32, u8>, a: u32, v: u8)
     if let Some(byte) = tree.get_mut(&a) {
         *byte = v;
     }
+}
+
+/// There is an entry at an address, which may be 0.
+fn keeps(tree: &BTreeMap<u32, u8>, a: u32) -> bool
+    ensures { result ≡ is_some (get nat_cmp tree.now a) }
+{
+    tree.contains_key(&a)
+}
+
+/// The byte at an address; one that the tree doesn't keep is 0.
+pub(crate) fn byte(tree: &BTreeMap<u32, u8>, a: u32) -> u8
+    ensures { result ≡ byte_at (seen tree.now.entries) a }
+{
+    tree.get(&a).copied().unwrap_or(0)
+}
+
+/// At how many addresses two trees have different bytes.
+pub(crate) fn differences(one: &BTreeMap<u32, u8>, other: &BTreeMap<u32, u8>) -> u64
+    ensures { result ≡ differences (seen one.now.entries) (seen other.now.entries) }
+{
+    changed(one, other) + added(one, other)
+}
+
+/// How many of the bytes that a tree keeps another one has otherwise.
+fn changed(tree: &BTreeMap<u32, u8>, other: &BTreeMap<u32, u8>) -> u64
+    ensures count { result ≡ count_by (λ e. not (e.1 == byte_at (seen other.now.entries) e.0)) tree.now.entries }
+    ensures small { result < 2 ^ 63 }
+    ensures ordered { IsOrdered nat_cmp tree.now }
+    ensures addresses { All (λ e. e.0 < 2 ^ 32) tree.now.entries }
+{
+    let mut count = 0;
+    for (a, v) in tree.iter() {
+        if *v != byte(other, *a) {
+            count += 1;
+        }
+    }
+    count
+}
+
+/// How many bytes that aren't 0 another tree keeps where the first keeps none.
+fn added(tree: &BTreeMap<u32, u8>, other: &BTreeMap<u32, u8>) -> u64
+    ensures count { result ≡ count_by (λ e. not (is_some (get nat_cmp tree.now e.0)) && not (e.1 == 0)) other.now.entries }
+    ensures small { result < 2 ^ 63 }
+    ensures ordered { IsOrdered nat_cmp other.now }
+    ensures addresses { All (λ e. e.0 < 2 ^ 32) other.now.entries }
+{
+    let mut count = 0;
+    for (a, v) in other.iter() {
+        if !keeps(tree, *a) && *v != 0 {
+            count += 1;
+        }
+    }
+    count
 }

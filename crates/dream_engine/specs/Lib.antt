@@ -1,0 +1,3 @@
+pub mod Place
+pub mod Agreement
+pub mod Line

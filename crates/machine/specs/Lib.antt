@@ -1,0 +1,5 @@
+pub mod Meaning
+pub mod Steps
+pub mod Code
+pub mod Run
+pub mod Laws

@@ -1,0 +1,27 @@
+-- Runs that go step by step from address to address.
+use Rattle.std.specs.Prelude.{ℕ, zero, suc, Bool, true, false}
+
+-- what a step leads to: an address, the run's end, a stray, or an address at which there is no instruction
+pub data Onward (M E : Type 0) : Type 0 where
+  At : ℕ → M → Onward M E
+  Finished : E → Onward M E
+  Strays : Onward M E
+  Blank : Onward M E
+
+-- goes on from an address that was come to
+abbrev pub go_on : {M E : Type 0} → Onward M E → (ℕ → M → Onward M E) → Onward M E
+go_on (At a m) f = f a m
+go_on (Finished e) f = Finished e
+go_on Strays f = Strays
+go_on Blank f = Blank
+
+-- a step that is judged to stray leads nowhere else
+abbrev pub judged : {M E : Type 0} → Bool → Onward M E → Onward M E
+judged true r = Strays
+judged false r = r
+
+module _ (M E : Type 0) (step : ℕ → M → Onward M E) where
+  -- at most n steps
+  abbrev pub steps : ℕ → ℕ → M → Onward M E
+  steps zero a m = At a m
+  steps (suc n) a m = go_on (step a m) (steps n)

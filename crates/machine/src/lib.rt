@@ -1,0 +1,10 @@
+//! The machine: what a range of an image does, instruction by instruction, from any start and with any answers.
+//! Given are the frozen bytes of an image and a range of addresses in it.
+//! Promised are, as laws on the definitions, that each range has its instructions, and when a step strays.
+#![tactic(auto)]
+
+mod form;
+mod laws;
+
+pub use form::Form;
+pub use laws::{every_range_decodes, outcomes_stay, straying_is_exact};
