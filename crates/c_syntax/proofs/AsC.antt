@@ -1,6 +1,5 @@
 -- Words, Conds and statements do what a reader of C expects.
-use Rattle.std.proofs.Common.{◌≡◌, ℕ, zero, suc, ◌≤◌, ◌<◌, nat_lt, Bool, true, false, if◌then◌else◌, List, [], ◌∷◌, Option, Some, None, refl, sym, ap, ◌∙◌, subst, map, arith}
-use Rattle.dream_words.specs.declared.machine.Bit.{Bit}
+use Rattle.std.proofs.Common.{◌≡◌, ℕ, zero, suc, ◌≤◌, nat_lt, Bool, true, false, if◌then◌else◌, List, [], ◌∷◌, Option, Some, None, refl, sym, ap, ◌∙◌, map, arith}
 use Rattle.dream_words.specs.declared.outcome.Start.{Start}
 use Rattle.dream_words.specs.declared.outcome.Answer.{Answer}
 use Rattle.dream_words.specs.declared.outcome.Outcome.{Outcome}
@@ -9,7 +8,6 @@ use Rattle.run_parts.specs.Parts.{Past, Ends, Goes, has, in_turn, on, caught, de
 use Rattle.run_parts.specs.Steps.{Halt, having, done, simply}
 use Rattle.run_parts.specs.World.{Names, World, start_world, returned, outcome_of}
 use Rattle.run_parts.specs.Effects.{setting}
-use Rattle.c_syntax.specs.declared.syntax.CBin.{CBin}
 use Rattle.c_syntax.specs.declared.syntax.CBin.TheVariants.{Shl, Shr}
 use Rattle.c_syntax.specs.declared.syntax.CExpr as e
 use Rattle.c_syntax.specs.declared.syntax.CExpr.{CExpr, CExpr-F, roll-CExpr}
@@ -20,20 +18,22 @@ use Rattle.c_syntax.specs.declared.syntax.CStmt.{CStmt, CStmt-F, roll-CStmt}
 use Rattle.c_syntax.specs.declared.syntax.CArm.{CArm}
 use Rattle.c_syntax.specs.declared.syntax.CGroup.{CGroup, roll-CGroup}
 use Rattle.c_syntax.specs.declared.syntax.CFun.{CFun}
-use Rattle.c_syntax.specs.Value.{Word, Truth, both, each, picked, word_at, truth_at, word_of, truth_of}
+use Rattle.c_syntax.specs.Value.{Word, Truth, both, picked, word_at, truth_at, word_of, truth_of}
 use Rattle.c_syntax.specs.Words.{bin_of}
 use Rattle.c_syntax.specs.Run.{Part, Test, word_in, holds, run, run_all, run_arm, run_group, stmt_at, c_run}
 use Rattle.c_syntax.specs.AsC.{EvaluatesAsC, RunsAsC}
-use Rattle.c_syntax.proofs.Runs.{run_layer, run_group_layer}
+use Rattle.c_syntax.proofs.Layers.{word_of_layer, truth_of_layer, run_layer, run_group_layer}
 
 -- ---- Words and Conds
 
-pub word_layer : (y : CExpr-F CCond CExpr) (v : Names) → word_of (roll-CExpr y) v ≡ word_at (e.map-CExpr CCond CExpr Truth Word truth_of word_of y) v
-word_layer y v = ap (λ g. g v) (e.fold-roll-CExpr Truth Word truth_at word_at y)
+-- a Word and a Cond by their parts
+word_layer : (y : CExpr-F CCond CExpr) (v : Names) → word_of (roll-CExpr y) v ≡ word_at (e.map-CExpr CCond CExpr Truth Word truth_of word_of y) v
+word_layer y v = ap (λ g. g v) (word_of_layer y)
 
-pub truth_layer : (y : CCond-F CCond CExpr) (v : Names) → truth_of (roll-CCond y) v ≡ truth_at (c.map-CCond CCond CExpr Truth Word truth_of word_of y) v
-truth_layer y v = ap (λ g. g v) (c.fold-roll-CCond Truth Word truth_at word_at y)
+truth_layer : (y : CCond-F CCond CExpr) (v : Names) → truth_of (roll-CCond y) v ≡ truth_at (c.map-CCond CCond CExpr Truth Word truth_of word_of y) v
+truth_layer y v = ap (λ g. g v) (truth_of_layer y)
 
+-- a number past a bound isn't below it
 not_below : (n k : ℕ) → k ≤ n → nat_lt n k ≡ false
 not_below n k h = grind arith
 
@@ -42,9 +42,11 @@ stuck_by : (f : ℕ → ℕ → Option ℕ) (n : ℕ) → ((x : ℕ) → f x n �
 stuck_by f n h None b g = refl
 stuck_by f n h (Some x) b g = ap (both f (Some x)) g ∙ h x
 
+-- a value that is asked for only below a bound is none past it
 gone : (b : Bool) (o : Option ℕ) → b ≡ false → (if b then o else None) ≡ None
 gone b o h = ap (λ q. if q then o else None) h
 
+-- the law on Words and Conds
 pub evaluates_as_c : EvaluatesAsC
 evaluates_as_c = record {
   and_stops = λ t u v h. truth_layer (CCond-F.And t u) v ∙ ap (λ o. picked o (truth_of u v) (Some false)) h;
@@ -57,6 +59,7 @@ evaluates_as_c = record {
 
 -- ---- statements
 
+-- a statement by its parts
 run_at : (y : CStmt-F CStmt CArm CGroup) (m : ℕ) (w : World) → run (roll-CStmt y) m w ≡ stmt_at (st.map-CStmt CStmt CArm CGroup Part (Test × Part) (List ℕ × Part) run run_arm run_group y) m w
 run_at y m w = ap (λ p. p m w) (run_layer y)
 
@@ -96,6 +99,7 @@ ending : (enter : Test) (body : Part) (m : ℕ) (w : World) → enter w ≡ Some
 ending enter body zero w h = ap (λ o. decide o goes_on skip 0 w) h
 ending enter body (suc m) w h = ap (λ o. decide o (turn body always (rounds m enter body always)) skip (suc m) w) h
 
+-- the law on statements and functions
 pub runs_as_c : RunsAsC
 runs_as_c = record {
   set_is_stuck = λ n a m w h. run_at (CStmt-F.Set n a) m w ∙ ap (λ o. done (having o (λ x. setting n x w)) m) h;

@@ -1,5 +1,5 @@
 -- Induction over Words and Conds, and over statements, arms and groups: one field a variant.
-use Rattle.std.proofs.Common.{◌≡◌, ℕ, List, [], ◌∷◌, Option, Some, None, map, subst}
+use Rattle.std.proofs.Common.{ℕ, List, [], ◌∷◌, Some, None, map, subst}
 use Rattle.dream_words.specs.declared.machine.Name.{Name}
 use Rattle.dream_words.specs.declared.machine.Width.{Width}
 use Rattle.c_syntax.specs.declared.syntax.CBin.{CBin}
@@ -18,6 +18,7 @@ use Rattle.c_syntax.specs.declared.syntax.CArm.{CArm, CArm-F, roll-CArm, ind-CAr
 use Rattle.c_syntax.specs.declared.syntax.CGroup as group
 use Rattle.c_syntax.specs.declared.syntax.CGroup.{CGroup, CGroup-F, roll-CGroup, ind-CGroup}
 
+-- what is to be shown of each variant of a Word, and of a Cond
 pub record WordCases (P : CExpr → Type 0) (Q : CCond → Type 0) : Type 0 where
   pub num : (n : ℕ) → P (roll-CExpr (CExpr-F.Num n))
   pub name : (n : Name) → P (roll-CExpr (CExpr-F.Name n))
@@ -34,6 +35,7 @@ pub record WordCases (P : CExpr → Type 0) (Q : CCond → Type 0) : Type 0 wher
 
 module _ (P : CExpr → Type 0) (Q : CCond → Type 0) (cases : WordCases P Q) (X Y : Type 0) (f : X → CCond) (g : Y → CExpr)
     (p : (x : X) → Q (f x)) (q : (y : Y) → P (g y)) where
+  -- each layer is one of the variants
   word_layer : (y : CExpr-F X Y) → P (roll-CExpr (e.map-CExpr X Y CCond CExpr f g y))
   word_layer (CExpr-F.Num n) = cases.num n
   word_layer (CExpr-F.Name n) = cases.name n
@@ -50,6 +52,7 @@ module _ (P : CExpr → Type 0) (Q : CCond → Type 0) (cases : WordCases P Q) (
   cond_layer (CCond-F.And t u) = cases.both (f t) (f u) (p t) (p u)
   cond_layer (CCond-F.Or t u) = cases.either (f t) (f u) (p t) (p u)
 
+-- what holds at each variant holds of every Word, and of every Cond
 pub every_word : {P : CExpr → Type 0} {Q : CCond → Type 0} → WordCases P Q → (a : CExpr) → P a
 every_word {P} {Q} cases a = ind-CExpr Q P
     (λ x y h. subst (λ z. Q (roll-CCond z)) h (cond_layer P Q cases _ _ (λ e'. e'.0) (λ e'. e'.0) (λ e'. e'.1) (λ e'. e'.1) y))
@@ -60,10 +63,12 @@ every_cond {P} {Q} cases t = ind-CCond Q P
     (λ x y h. subst (λ z. Q (roll-CCond z)) h (cond_layer P Q cases _ _ (λ e'. e'.0) (λ e'. e'.0) (λ e'. e'.1) (λ e'. e'.1) y))
     (λ x y h. subst (λ z. P (roll-CExpr z)) h (word_layer P Q cases _ _ (λ e'. e'.0) (λ e'. e'.0) (λ e'. e'.1) (λ e'. e'.1) y)) t
 
+-- each member of a list
 abbrev pub Each : {A : Type 0} → (A → Type 0) → List A → Type 0
 Each P [] = Unit {0}
 Each P (x ∷ xs) = P x × Each P xs
 
+-- what is to be shown of each variant of a statement, of an arm and of a group
 pub record StmtCases (P : CStmt → Type 0) (Q : CArm → Type 0) (R : CGroup → Type 0) : Type 0 where
   pub set : (n : Name) (a : CExpr) → P (roll-CStmt (CStmt-F.Set n a))
   pub load : (n : Name) (w : Width) (a : CExpr) → P (roll-CStmt (CStmt-F.Load n w a))
@@ -81,12 +86,14 @@ pub record StmtCases (P : CStmt → Type 0) (Q : CArm → Type 0) (R : CGroup �
   pub arm_of : (t : CCond) (body : List CStmt) → Each P body → Q (roll-CArm (record { test = t; body = body }))
   pub group_of : (values : List ℕ) (body : List CStmt) → Each P body → R (roll-CGroup (record { values = values; body = body }))
 
+-- each member of a list that is mapped
 each_of : {A X : Type 0} (P : A → Type 0) (f : X → A) → ((x : X) → P (f x)) → (xs : List X) → Each P (map f xs)
 each_of P f p [] = tt
 each_of P f p (x ∷ xs) = (p x, each_of P f p xs)
 
 module _ (P : CStmt → Type 0) (Q : CArm → Type 0) (R : CGroup → Type 0) (cases : StmtCases P Q R) (X Y Z : Type 0)
     (f : X → CStmt) (g : Y → CArm) (h : Z → CGroup) (p : (x : X) → P (f x)) (q : (y : Y) → Q (g y)) (r : (z : Z) → R (h z)) where
+  -- each layer is one of the variants
   stmt_layer : (y : CStmt-F X Y Z) → P (roll-CStmt (st.map-CStmt X Y Z CStmt CArm CGroup f g h y))
   stmt_layer (CStmt-F.Set n a) = cases.set n a
   stmt_layer (CStmt-F.Load n w a) = cases.load n w a
@@ -108,12 +115,14 @@ module _ (P : CStmt → Type 0) (Q : CArm → Type 0) (R : CGroup → Type 0) (c
   group_layer : (y : CGroup-F X Y Z) → R (roll-CGroup (group.map-CGroup X Y Z CStmt CArm CGroup f g h y))
   group_layer y = cases.group_of y.values (map f y.body) (each_of P f p y.body)
 
+-- what holds at each variant holds of every statement
 pub every_stmt : {P : CStmt → Type 0} {Q : CArm → Type 0} {R : CGroup → Type 0} → StmtCases P Q R → (s : CStmt) → P s
 every_stmt {P} {Q} {R} cases s = ind-CStmt P Q R
     (λ x y h. subst (λ z. P (roll-CStmt z)) h (stmt_layer P Q R cases _ _ _ (λ e'. e'.0) (λ e'. e'.0) (λ e'. e'.0) (λ e'. e'.1) (λ e'. e'.1) (λ e'. e'.1) y))
     (λ x y h. subst (λ z. Q (roll-CArm z)) h (arm_layer P Q R cases _ _ _ (λ e'. e'.0) (λ e'. e'.0) (λ e'. e'.0) (λ e'. e'.1) (λ e'. e'.1) (λ e'. e'.1) y))
     (λ x y h. subst (λ z. R (roll-CGroup z)) h (group_layer P Q R cases _ _ _ (λ e'. e'.0) (λ e'. e'.0) (λ e'. e'.0) (λ e'. e'.1) (λ e'. e'.1) (λ e'. e'.1) y)) s
 
+-- and of each statement of a list
 pub each_stmt : {P : CStmt → Type 0} {Q : CArm → Type 0} {R : CGroup → Type 0} → StmtCases P Q R → (ss : List CStmt) → Each P ss
 each_stmt cases [] = tt
 each_stmt cases (s ∷ ss) = (every_stmt cases s, each_stmt cases ss)

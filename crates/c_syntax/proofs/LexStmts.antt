@@ -1,11 +1,8 @@
--- The canonical_text text of statements, and of a function, is read as its tokens.
-use Rattle.std.proofs.Common.{◌≡◌, ℕ, zero, suc, ◌+◌, ◌*◌, List, [], ◌∷◌, ◌++◌, Option, Some, None, refl, sym, ap, ◌∙◌, subst, append_assoc, codes, map, min}
+-- The canonical text of statements, and of a function, is read as its tokens.
+use Rattle.std.proofs.Common.{◌≡◌, ℕ, zero, suc, ◌+◌, ◌*◌, List, [], ◌∷◌, ◌++◌, Some, None, refl, sym, ap, ◌∙◌, subst, append_assoc, codes, map, min}
 use Rattle.std.specs.Prelude.{replicate}
 use Rattle.dream_words.specs.declared.machine.Name.{Name}
 use Rattle.dream_words.specs.declared.machine.Name.TheVariants as name
-use Rattle.dream_words.specs.declared.machine.Width.{Width}
-use Rattle.c_syntax.specs.declared.syntax.CExpr.{CExpr}
-use Rattle.c_syntax.specs.declared.syntax.CCond.{CCond}
 use Rattle.c_syntax.specs.declared.syntax.CStmt as st
 use Rattle.c_syntax.specs.declared.syntax.CStmt.{CStmt, CStmt-F, roll-CStmt}
 use Rattle.c_syntax.specs.declared.syntax.CArm as arm
@@ -16,17 +13,18 @@ use Rattle.c_syntax.specs.declared.syntax.CFun.{CFun}
 use Rattle.c_syntax.specs.declared.token.Token.{Token}
 use Rattle.c_syntax.specs.declared.token.Token.TheVariants as t
 use Rattle.c_syntax.specs.Lex.{lex}
-use Rattle.c_syntax.specs.Spelling.{spelling, num_text, name_text, function_text, ld_text, st_text}
+use Rattle.c_syntax.specs.Spelling.{num_text, name_text, function_text, ld_text, st_text}
 use Rattle.c_syntax.specs.Text as text
 use Rattle.c_syntax.specs.Text.{Text, Lines, word_text, cond_text, indent, line, include_line, fun_text, canonical_text, decls_text, stmt_text, arm_text, group_text, stmts_text, cases_text}
 use Rattle.c_syntax.specs.Tokens as tokens
 use Rattle.c_syntax.specs.Tokens.{Tokens, word_tokens, cond_tokens, stmt_tokens, arm_tokens, group_tokens, stmts_tokens, cases_tokens, decls_tokens, fun_tokens}
-use Rattle.c_syntax.specs.Formed.{IsWellFormed}
-use Rattle.c_syntax.specs.Stands.{StandsFor, CanonicalStands}
-use Rattle.c_syntax.proofs.Induct.{StmtCases, Each, every_stmt, each_stmt}
-use Rattle.c_syntax.proofs.Lexing.{spelt, IsApart, after, opens, closes, ends, num_step, name_step, function_step, ld_step, st_step}
-use Rattle.c_syntax.proofs.LexWords.{Lexes, CondLexes, word_lexes, cond_lexes}
+use Rattle.c_syntax.specs.Stands.{CanonicalStands}
+use Rattle.c_syntax.proofs.Layers.{stmt_tokens_layer, arm_tokens_layer, group_tokens_layer, stmt_text_layer, arm_text_layer, group_text_layer}
+use Rattle.c_syntax.proofs.Induct.{StmtCases, Each, every_stmt}
+use Rattle.c_syntax.proofs.Lexing.{spelt, after, opens, ends, num_step, name_step, function_step, ld_step, st_step}
+use Rattle.c_syntax.proofs.LexWords.{word_lexes, cond_lexes}
 
+-- texts one after another, with what follows them
 assoc2 : (a b rest : List ℕ) → (a ++ b) ++ rest ≡ a ++ (b ++ (rest))
 assoc2 a b rest = simp append_assoc
 
@@ -45,6 +43,7 @@ assoc6 a b c d e f rest = simp append_assoc
 assoc7 : (a b c d e f g rest : List ℕ) → ((((((a ++ b) ++ c) ++ d) ++ e) ++ f) ++ g) ++ rest ≡ a ++ (b ++ (c ++ (d ++ (e ++ (f ++ (g ++ (rest)))))))
 assoc7 a b c d e f g rest = simp append_assoc
 
+-- blanks before a text are no part of its tokens
 blanks : (k : ℕ) (rest : List ℕ) → lex [] (replicate k 32 ++ rest) ≡ lex [] rest
 blanks zero rest = refl
 blanks (suc k) rest = blanks k rest
@@ -61,12 +60,14 @@ pub record Reads (x : Lines) (p : Tokens) : Type 0 where
 
 -- parts one after another
 module _ {A : Type 0} (x : A → Lines) (p : A → Tokens) where
+  -- lines one after another
   all_read : (as' : List A) → Each (λ a. Reads (x a) (p a)) as' → (level : ℕ) (rest : List ℕ) (r : List Token) → lex [] rest ≡ spelt r
       → lex [] (text.all (map x as') level ++ rest) ≡ spelt (tokens.all (map p as') r)
   all_read [] hs level rest r h = h
   all_read (a ∷ as') hs level rest r h =
       ap (lex []) (append_assoc (x a level) (text.all (map x as') level) rest) ∙ hs.0.reads level _ _ (all_read as' hs.1 level rest r h)
 
+  -- the arms after the first
   more_read : (as' : List A) → Each (λ a. Reads (x a) (p a)) as' → (level : ℕ) (rest : List ℕ) (r : List Token) → lex [] rest ≡ spelt r
       → lex [] (text.more_arms (map x as') level ++ rest) ≡ spelt (tokens.more_arms (map p as') r)
   more_read [] hs level rest r h = h
@@ -74,48 +75,54 @@ module _ {A : Type 0} (x : A → Lines) (p : A → Tokens) where
       let e : text.more_arms (map x (a ∷ as')) level ++ rest ≡ 32 ∷ 101 ∷ 108 ∷ 115 ∷ 101 ∷ 32 ∷ (x a level ++ (text.more_arms (map x as') level ++ rest)) = assoc3 (codes " else ") (x a level) (text.more_arms (map x as') level) (rest) in ap (lex []) e ∙
       after (codes "else") (hs.0.reads level _ _ (more_read as' hs.1 level rest r h))
 
+  -- all arms
   arms_read : (as' : List A) → Each (λ a. Reads (x a) (p a)) as' → (level : ℕ) (rest : List ℕ) (r : List Token) → lex [] rest ≡ spelt r
       → lex [] (text.arms_text (map x as') level ++ rest) ≡ spelt (tokens.arms_tokens (map p as') r)
   arms_read [] hs level rest r h = h
   arms_read (a ∷ as') hs level rest r h =
       ap (lex []) (append_assoc (x a level) (text.more_arms (map x as') level) rest) ∙ hs.0.reads level _ _ (more_read as' hs.1 level rest r h)
 
+  -- a body
   body_read : (as' : List A) → Each (λ a. Reads (x a) (p a)) as' → (level : ℕ) (rest : List ℕ) (r : List Token) → lex [] rest ≡ spelt r
       → lex [] (text.body_text (map x as') level ++ rest) ≡ spelt (tokens.body_tokens (map p as') r)
   body_read as' hs level rest r h =
       let e : text.body_text (map x as') level ++ rest ≡ 123 ∷ 10 ∷ (text.all (map x as') (level + 1) ++ (indent level ++ 125 ∷ rest)) = assoc4 (codes "{\n") (text.all (map x as') (level + 1)) (indent level) (codes "}") (rest) in ap (lex []) e ∙
       after (codes "{") (all_read as' hs (level + 1) _ _ (blanks (2 * min level 32) (125 ∷ rest) ∙ ends rest r h))
 
+-- the values of a group
 cases_read : (vs : List ℕ) (rest : List ℕ) (r : List Token) → lex [] rest ≡ spelt r → lex [] (cases_text vs ++ rest) ≡ spelt (cases_tokens vs r)
 cases_read [] rest r h = h
 cases_read (v ∷ vs) rest r h =
     let e : cases_text (v ∷ vs) ++ rest ≡ 99 ∷ 97 ∷ 115 ∷ 101 ∷ 32 ∷ (num_text v ++ 58 ∷ 32 ∷ (cases_text vs ++ rest)) = assoc4 (codes "case ") (num_text v) (codes ": ") (cases_text vs) (rest) in ap (lex []) e ∙
     after (codes "case") (num_step v _ (t.Colon ∷ cases_tokens vs r) (refl, refl) (after (codes ":") (cases_read vs rest r h)))
 
+-- the lines of a statement are read as its tokens
 StmtReads : CStmt → Type 0
 StmtReads s = Reads (stmt_text s) (stmt_tokens s)
 
+-- a layer over statements, arms and groups
 stmt_layer : (y : CStmt-F CStmt CArm CGroup)
     → Reads (text.stmt_at (st.map-CStmt CStmt CArm CGroup Lines Lines Lines stmt_text arm_text group_text y)) (tokens.stmt_at (st.map-CStmt CStmt CArm CGroup Tokens Tokens Tokens stmt_tokens arm_tokens group_tokens y))
     → Reads (stmt_text (roll-CStmt y)) (stmt_tokens (roll-CStmt y))
 stmt_layer y h =
-    subst (λ p. Reads (stmt_text (roll-CStmt y)) p) (sym (st.fold-roll-CStmt Tokens Tokens Tokens tokens.stmt_at tokens.arm_at tokens.group_at y))
-    (subst (λ x. Reads x (tokens.stmt_at (st.map-CStmt CStmt CArm CGroup Tokens Tokens Tokens stmt_tokens arm_tokens group_tokens y))) (sym (st.fold-roll-CStmt Lines Lines Lines text.stmt_at text.arm_at text.group_at y)) h)
+    subst (λ p. Reads (stmt_text (roll-CStmt y)) p) (sym (stmt_tokens_layer y))
+    (subst (λ x. Reads x (tokens.stmt_at (st.map-CStmt CStmt CArm CGroup Tokens Tokens Tokens stmt_tokens arm_tokens group_tokens y))) (sym (stmt_text_layer y)) h)
 
 arm_layer : (y : CArm-F CStmt CArm CGroup)
     → Reads (text.arm_at (arm.map-CArm CStmt CArm CGroup Lines Lines Lines stmt_text arm_text group_text y)) (tokens.arm_at (arm.map-CArm CStmt CArm CGroup Tokens Tokens Tokens stmt_tokens arm_tokens group_tokens y))
     → Reads (arm_text (roll-CArm y)) (arm_tokens (roll-CArm y))
 arm_layer y h =
-    subst (λ p. Reads (arm_text (roll-CArm y)) p) (sym (arm.fold-roll-CArm Tokens Tokens Tokens tokens.stmt_at tokens.arm_at tokens.group_at y))
-    (subst (λ x. Reads x (tokens.arm_at (arm.map-CArm CStmt CArm CGroup Tokens Tokens Tokens stmt_tokens arm_tokens group_tokens y))) (sym (arm.fold-roll-CArm Lines Lines Lines text.stmt_at text.arm_at text.group_at y)) h)
+    subst (λ p. Reads (arm_text (roll-CArm y)) p) (sym (arm_tokens_layer y))
+    (subst (λ x. Reads x (tokens.arm_at (arm.map-CArm CStmt CArm CGroup Tokens Tokens Tokens stmt_tokens arm_tokens group_tokens y))) (sym (arm_text_layer y)) h)
 
 group_layer : (y : CGroup-F CStmt CArm CGroup)
     → Reads (text.group_at (group.map-CGroup CStmt CArm CGroup Lines Lines Lines stmt_text arm_text group_text y)) (tokens.group_at (group.map-CGroup CStmt CArm CGroup Tokens Tokens Tokens stmt_tokens arm_tokens group_tokens y))
     → Reads (group_text (roll-CGroup y)) (group_tokens (roll-CGroup y))
 group_layer y h =
-    subst (λ p. Reads (group_text (roll-CGroup y)) p) (sym (group.fold-roll-CGroup Tokens Tokens Tokens tokens.stmt_at tokens.arm_at tokens.group_at y))
-    (subst (λ x. Reads x (tokens.group_at (group.map-CGroup CStmt CArm CGroup Tokens Tokens Tokens stmt_tokens arm_tokens group_tokens y))) (sym (group.fold-roll-CGroup Lines Lines Lines text.stmt_at text.arm_at text.group_at y)) h)
+    subst (λ p. Reads (group_text (roll-CGroup y)) p) (sym (group_tokens_layer y))
+    (subst (λ x. Reads x (tokens.group_at (group.map-CGroup CStmt CArm CGroup Tokens Tokens Tokens stmt_tokens arm_tokens group_tokens y))) (sym (group_text_layer y)) h)
 
+-- by cases
 stmt_reads : StmtCases (λ s. Reads (stmt_text s) (stmt_tokens s)) (λ a. Reads (arm_text a) (arm_tokens a)) (λ g. Reads (group_text g) (group_tokens g))
 stmt_reads = record {
   set = λ n a. stmt_layer (CStmt-F.Set n a) (record {
@@ -191,11 +198,13 @@ stmt_reads = record {
   });
 }
 
+-- the statements of a function
 stmts_read : (ss : List CStmt) (level : ℕ) (rest : List ℕ) (r : List Token) → lex [] rest ≡ spelt r → lex [] (stmts_text ss level ++ rest) ≡ spelt (stmts_tokens ss r)
 stmts_read [] level rest r h = h
 stmts_read (s ∷ ss) level rest r h =
     ap (lex []) (append_assoc (stmt_text s level) (stmts_text ss level) rest) ∙ (every_stmt stmt_reads s).reads level _ _ (stmts_read ss level rest r h)
 
+-- the declarations of a kind
 decls_read : (kind : ℕ → Name) (n : ℕ) (rest : List ℕ) (r : List Token) → lex [] rest ≡ spelt r → lex [] (decls_text kind n ++ rest) ≡ spelt (decls_tokens kind n r)
 decls_read kind zero rest r h = h
 decls_read kind (suc n) rest r h =
@@ -204,6 +213,7 @@ decls_read kind (suc n) rest r h =
     (lined 1 (codes "uint32_t " ++ name_text (kind n) ++ codes " = 0u;") rest ∙ (let e : (codes "uint32_t " ++ name_text (kind n) ++ codes " = 0u;") ++ 10 ∷ rest ≡ 117 ∷ 105 ∷ 110 ∷ 116 ∷ 51 ∷ 50 ∷ 95 ∷ 116 ∷ 32 ∷ (name_text (kind n) ++ 32 ∷ 61 ∷ 32 ∷ 48 ∷ 117 ∷ 59 ∷ (10 ∷ rest)) = assoc3 (codes "uint32_t ") (name_text (kind n)) (codes " = 0u;") ((10 ∷ rest)) in ap (lex []) e) ∙
     after (codes "uint32_t") (name_step (kind n) _ (t.Assign ∷ t.Zero ∷ t.Semicolon ∷ r) (refl, refl) (after (codes "=") (after (codes "0u") (after (codes ";") h)))))
 
+-- what comes after the include line
 fun_read : (f : CFun) → lex [] (fun_text f) ≡ spelt (fun_tokens f)
 fun_read f =
     (let e : fun_text f ≡ 10 ∷ 118 ∷ 111 ∷ 105 ∷ 100 ∷ 32 ∷ (function_text f.address ++ 40 ∷ 118 ∷ 111 ∷ 105 ∷ 100 ∷ 41 ∷ 10 ∷ 123 ∷ 10 ∷ (decls_text name.T f.temps ++ (decls_text name.B f.bools ++ (decls_text name.S f.selectors ++ (stmts_text f.body 1 ++ (codes "}\n")))))) = assoc7 (codes "\nvoid ") (function_text f.address) (codes "(void)\n{\n") (decls_text name.T f.temps) (decls_text name.B f.bools) (decls_text name.S f.selectors) (stmts_text f.body 1) (codes "}\n") in ap (lex []) e) ∙
@@ -211,5 +221,6 @@ fun_read f =
     (after (codes "(") (after (codes "void") (after (codes ")") (after (codes "{")
     (decls_read name.T f.temps (decls_text name.B f.bools ++ (decls_text name.S f.selectors ++ (stmts_text f.body 1 ++ codes "}\n"))) (decls_tokens name.B f.bools (decls_tokens name.S f.selectors (stmts_tokens f.body (t.End ∷ [])))) (decls_read name.B f.bools (decls_text name.S f.selectors ++ (stmts_text f.body 1 ++ codes "}\n")) (decls_tokens name.S f.selectors (stmts_tokens f.body (t.End ∷ []))) (decls_read name.S f.selectors (stmts_text f.body 1 ++ codes "}\n") (stmts_tokens f.body (t.End ∷ [])) (stmts_read f.body 1 (codes "}\n") (t.End ∷ []) refl)))))))))
 
+-- the law
 pub canonical_stands : CanonicalStands
 canonical_stands f w = record { rest = fun_text f; begins = refl; tokens = fun_read f; well_formed = w }

@@ -1,6 +1,5 @@
 -- The canonical_text text of a Word or Cond is read as its tokens.
 use Rattle.std.proofs.Common.{◌≡◌, ℕ, List, [], ◌∷◌, ◌++◌, refl, sym, ap, ◌∙◌, subst, append_assoc, codes}
-use Rattle.dream_words.specs.declared.machine.Name.{Name}
 use Rattle.c_syntax.specs.declared.syntax.CBin.{CBin}
 use Rattle.c_syntax.specs.declared.syntax.CCmp.{CCmp}
 use Rattle.c_syntax.specs.declared.syntax.CFn1.{CFn1}
@@ -13,11 +12,12 @@ use Rattle.c_syntax.specs.declared.syntax.CCond.{CCond, CCond-F, roll-CCond}
 use Rattle.c_syntax.specs.declared.token.Token.{Token}
 use Rattle.c_syntax.specs.declared.token.Token.TheVariants as t
 use Rattle.c_syntax.specs.Lex.{lex}
-use Rattle.c_syntax.specs.Spelling.{spelling, op_text, cmp_text, fn1_text, fn2_text, fn3_text}
+use Rattle.c_syntax.specs.Spelling.{op_text, cmp_text, fn1_text, fn2_text, fn3_text}
 use Rattle.c_syntax.specs.Text as text
 use Rattle.c_syntax.specs.Text.{Text, word_text, cond_text}
 use Rattle.c_syntax.specs.Tokens as tokens
 use Rattle.c_syntax.specs.Tokens.{Tokens, word_tokens, cond_tokens}
+use Rattle.c_syntax.proofs.Layers.{word_tokens_layer, cond_tokens_layer, word_text_layer, cond_text_layer}
 use Rattle.c_syntax.proofs.Induct.{WordCases, every_word, every_cond}
 use Rattle.c_syntax.proofs.Lexing.{spelt, IsApart, after, opens, closes, tilde, num_step, name_step, op_step, cmp_step, fn1_step, fn2_step, fn3_step}
 
@@ -31,6 +31,7 @@ pub record CondLexes (x : Text) (p : Tokens) : Type 0 where
   pub after_bang : (rest : List ℕ) → lex (33 ∷ []) (x ++ rest) ≡ codes "!" ∷ lex [] (x ++ rest)
 
 module _ (x y z : Text) (p q s : Tokens) (hx : Lexes x p) (hy : Lexes y q) (hz : Lexes z s) where
+  -- each form of a Word
   not_lexes : Lexes (text.word_at (CExpr-F.«CExpr::Not» x)) (tokens.word_at (CExpr-F.«CExpr::Not» p))
   not_lexes = record { reads = λ rest r free h. let e : text.word_at (CExpr-F.«CExpr::Not» x) ++ rest ≡ 40 ∷ 126 ∷ (x ++ 41 ∷ rest) = simp append_assoc in ap (lex []) e ∙ (after (codes "(") (tilde (x ++ 41 ∷ rest) (p (t.Close ∷ r)) (hx.reads (41 ∷ rest) (t.Close ∷ r) (refl, refl) (closes rest r h)))) }
 
@@ -62,6 +63,7 @@ module _ (x y z : Text) (p q s : Tokens) (hx : Lexes x p) (hy : Lexes y q) (hz :
         (after (codes ",") (hz.reads (41 ∷ rest) (t.Close ∷ r) (refl, refl) (closes rest r h)))))));
   }
 
+  -- a comparison
   cmp_lexes : (op : CCmp) → CondLexes (text.cond_at (CCond-F.Cmp op x y)) (tokens.cond_at (CCond-F.Cmp op p q))
   cmp_lexes op = record {
     after_bang = λ rest. refl;
@@ -71,6 +73,7 @@ module _ (x y z : Text) (p q s : Tokens) (hx : Lexes x p) (hy : Lexes y q) (hz :
   }
 
 module _ (x y z : Text) (p q s : Tokens) (hx : CondLexes x p) (hy : Lexes y q) (hz : Lexes z s) where
+  -- the conditional word
   pick_lexes : Lexes (text.word_at (CExpr-F.Pick x y z)) (tokens.word_at (CExpr-F.Pick p q s))
   pick_lexes = record {
     reads = λ rest r free h. let e : text.word_at (CExpr-F.Pick x y z) ++ rest ≡ 40 ∷ (x ++ 32 ∷ 63 ∷ 32 ∷ (y ++ 32 ∷ 58 ∷ 32 ∷ (z ++ 41 ∷ rest))) = simp append_assoc in ap (lex []) e ∙
@@ -80,6 +83,7 @@ module _ (x y z : Text) (p q s : Tokens) (hx : CondLexes x p) (hy : Lexes y q) (
   }
 
 module _ (x y : Text) (p q : Tokens) (hx : CondLexes x p) (hy : CondLexes y q) where
+  -- the other forms of a Cond
   not_cond_lexes : CondLexes (text.cond_at (CCond-F.«CCond::Not» x)) (tokens.cond_at (CCond-F.«CCond::Not» p))
   not_cond_lexes = record {
     after_bang = λ rest. refl;
@@ -111,16 +115,17 @@ word_layer : (y : CExpr-F CCond CExpr)
     → Lexes (text.word_at (e.map-CExpr CCond CExpr Text Text cond_text word_text y)) (tokens.word_at (e.map-CExpr CCond CExpr Tokens Tokens cond_tokens word_tokens y))
     → Lexes (word_text (roll-CExpr y)) (word_tokens (roll-CExpr y))
 word_layer y h =
-    subst (λ p. Lexes (word_text (roll-CExpr y)) p) (sym (e.fold-roll-CExpr Tokens Tokens tokens.cond_at tokens.word_at y))
-    (subst (λ x. Lexes x (tokens.word_at (e.map-CExpr CCond CExpr Tokens Tokens cond_tokens word_tokens y))) (sym (e.fold-roll-CExpr Text Text text.cond_at text.word_at y)) h)
+    subst (λ p. Lexes (word_text (roll-CExpr y)) p) (sym (word_tokens_layer y))
+    (subst (λ x. Lexes x (tokens.word_at (e.map-CExpr CCond CExpr Tokens Tokens cond_tokens word_tokens y))) (sym (word_text_layer y)) h)
 
 cond_layer : (y : CCond-F CCond CExpr)
     → CondLexes (text.cond_at (c.map-CCond CCond CExpr Text Text cond_text word_text y)) (tokens.cond_at (c.map-CCond CCond CExpr Tokens Tokens cond_tokens word_tokens y))
     → CondLexes (cond_text (roll-CCond y)) (cond_tokens (roll-CCond y))
 cond_layer y h =
-    subst (λ p. CondLexes (cond_text (roll-CCond y)) p) (sym (c.fold-roll-CCond Tokens Tokens tokens.cond_at tokens.word_at y))
-    (subst (λ x. CondLexes x (tokens.cond_at (c.map-CCond CCond CExpr Tokens Tokens cond_tokens word_tokens y))) (sym (c.fold-roll-CCond Text Text text.cond_at text.word_at y)) h)
+    subst (λ p. CondLexes (cond_text (roll-CCond y)) p) (sym (cond_tokens_layer y))
+    (subst (λ x. CondLexes x (tokens.cond_at (c.map-CCond CCond CExpr Tokens Tokens cond_tokens word_tokens y))) (sym (cond_text_layer y)) h)
 
+-- by cases
 lexing : WordCases (λ a. Lexes (word_text a) (word_tokens a)) (λ t. CondLexes (cond_text t) (cond_tokens t))
 lexing = record {
   num = λ n. word_layer (CExpr-F.Num n) (record { reads = λ rest r free h. num_step n rest r free h });
@@ -137,6 +142,7 @@ lexing = record {
   either = λ t u ht hu. cond_layer (CCond-F.Or t u) (either_lexes _ _ _ _ ht hu);
 }
 
+-- the text of a Word, and of a Cond, is read as its tokens
 pub word_lexes : (a : CExpr) → Lexes (word_text a) (word_tokens a)
 word_lexes a = every_word lexing a
 

@@ -1,4 +1,5 @@
 pub mod Induct
+pub mod Layers
 pub mod Runs
 pub mod AsC
 mod Digits

@@ -1,5 +1,5 @@
 -- A text stands for at most one function: a parser of whole functions that inverts the tokens.
-use Rattle.std.proofs.Common.{◌≡◌, ℕ, zero, suc, ◌+◌, ◌<◌, ◌≤◌, ◌-◌, Bool, true, false, if◌then◌else◌, List, [], ◌∷◌, ◌++◌, Option, Some, None, refl, sym, ap, ◌∙◌, subst, arith, map}
+use Rattle.std.proofs.Common.{◌≡◌, ℕ, zero, suc, ◌+◌, ◌<◌, ◌≤◌, ◌-◌, Bool, true, false, if◌then◌else◌, List, [], ◌∷◌, ◌++◌, Option, Some, None, refl, sym, ap, ◌∙◌, arith, map}
 use Rattle.dream_words.specs.declared.machine.Name.{Name}
 use Rattle.dream_words.specs.declared.machine.Name.TheVariants as name
 use Rattle.c_syntax.specs.declared.syntax.CStmt.{CStmt}
@@ -8,16 +8,16 @@ use Rattle.c_syntax.specs.declared.token.Token.{Token}
 use Rattle.c_syntax.specs.declared.token.Token.TheVariants as t
 use Rattle.c_syntax.specs.Lex.{lex}
 use Rattle.c_syntax.specs.Text.{include_line}
-use Rattle.c_syntax.specs.Tokens.{Tokens, all, stmt_tokens, stmts_tokens, decls_tokens, fun_tokens}
+use Rattle.c_syntax.specs.Tokens.{all, stmt_tokens, stmts_tokens, decls_tokens, fun_tokens}
 use Rattle.c_syntax.specs.Formed.{IsWellFormed}
-use Rattle.c_syntax.specs.Stands.{StandsFor, OneFunction}
-use Rattle.c_syntax.proofs.Lexing.{spelt}
-use Rattle.c_syntax.proofs.Spelled.{IsWord, IsToken, AreTokens, one_spelling}
+use Rattle.c_syntax.specs.Stands.{OneFunction}
+use Rattle.c_syntax.proofs.Spelled.{IsToken, AreTokens, one_spelling}
 use Rattle.c_syntax.proofs.ReadStmts.{Of, and_then, stmts, size_of, AllRead, Begins}
 use Rattle.c_syntax.proofs.ReadStmts as read
 use Rattle.c_syntax.proofs.Formed.{Bounds, Keeps}
 use Rattle.c_syntax.proofs.Formed as formed
 
+-- the three kinds of locals
 abbrev is_t : Name → Bool
 is_t (name.T n) = true
 is_t _ = false
@@ -37,6 +37,7 @@ count is (suc m) c (t.Uint32 ∷ t.Name n ∷ t.Assign ∷ t.Zero ∷ t.Semicolo
     if is n then count is m (suc c) ts else Some (c, t.Uint32 ∷ t.Name n ∷ t.Assign ∷ t.Zero ∷ t.Semicolon ∷ ts)
 count is (suc m) c ts = Some (c, ts)
 
+-- the function that tokens are those of
 abbrev function : ℕ → List Token → Option CFun
 function k (t.Void ∷ t.Function a ∷ t.Open ∷ t.Void ∷ t.Close ∷ t.Begin ∷ ts) =
     and_then (count is_t k 0 ts) (λ temps ts. and_then (count is_b k 0 ts) (λ bools ts. and_then (count is_s k 0 ts) (λ selectors ts.
@@ -47,6 +48,7 @@ function k _ = None
 abbrev Without : (Name → Bool) → List Token → Type 0
 Without is ts = (m c : ℕ) → count is (suc m) c ts ≡ Some (c, ts)
 
+-- no statement begins as a declaration does
 without_stmt : (is : Name → Bool) (ts : List Token) → Begins ts → Without is ts
 without_stmt is [] s m c = absurd s
 without_stmt is (t.Uint32 ∷ ts) s m c = absurd (cc)
@@ -56,6 +58,7 @@ without_stmts : (is : Name → Bool) (ss : List CStmt) → AllRead ss → (r : L
 without_stmts is [] h r m c = refl
 without_stmts is (s ∷ ss) h r m c = without_stmt is _ (h.0.begins (stmts_tokens ss (t.End ∷ r))) m c
 
+-- declarations of another kind don't count
 without_decls : (is : Name → Bool) (kind : ℕ → Name) → ((n : ℕ) → is (kind n) ≡ false) → (n : ℕ) (r : List Token) → Without is r → Without is (decls_tokens kind n r)
 without_decls is kind not zero r h = h
 without_decls is kind not (suc n) r h = without_decls is kind not n _ (λ m c.
@@ -73,6 +76,7 @@ counted is kind yes' (suc n) m c d r ts h =
     ∙ h (suc c') ∙ (let e : suc c' + d ≡ c' + suc d = omega arith in ap (λ q. Some (q, ts)) e))
     ∙ (let e : c + (n + suc d) ≡ c + (suc n + d) = omega arith in ap (λ q. Some (q, ts)) e)
 
+-- the declarations of a kind are counted, up to those of the next
 all_counted : (is : Name → Bool) (kind : ℕ → Name) → ((n : ℕ) → is (kind n) ≡ true) → (n k : ℕ) (r : List Token) → Without is r → suc n ≤ k
     → count is k 0 (decls_tokens kind n r) ≡ Some (n, r)
 all_counted is kind yes' n zero r h l = absurd (omega arith)
@@ -87,6 +91,7 @@ same_stmts [] r = refl
 same_stmts (s ∷ ss) r = ap (stmt_tokens s) (same_stmts ss r)
 
 module _ (f : CFun) (w : IsWellFormed f) where
+  -- the statements are read
   read_stmts : AllRead f.body
   read_stmts = formed.stmts_read f (record { temps = w.temps; bools = w.bools; selectors = w.selectors }) f.body w.allowed
 
@@ -94,6 +99,7 @@ module _ (f : CFun) (w : IsWellFormed f) where
   pub enough : ℕ
   enough = suc f.temps + suc f.bools + suc f.selectors + size_of f.body read_stmts
 
+  -- the parser inverts the tokens of a well-formed function
   pub fun_read : (k : ℕ) → enough ≤ k → function k (fun_tokens f) ≡ Some f
   unfolding enough
   fun_read k l =
@@ -112,10 +118,12 @@ module _ (f : CFun) (w : IsWellFormed f) where
       ∙ ap (λ o. and_then o (λ ss ts. Some (record { address = f.address; temps = f.temps; bools = f.bools; selectors = f.selectors; body = ss })))
       (ap (stmts k) (same_stmts f.body (t.End ∷ [])) ∙ read.stmts_read f.body read_stmts k [] (omega arith))
 
+  -- the declared names stand in some text
   decls_keep : (kind : ℕ → Name) → (n : ℕ) → ((m : ℕ) → m < n → IsToken (t.Name (kind m))) → Keeps (decls_tokens kind n)
   decls_keep kind zero h r v = v
   decls_keep kind (suc n) h r v = decls_keep kind n (λ m l. h m (omega arith)) _ (tt, (h n (omega arith), (tt, (tt, (tt, v)))))
 
+  -- all tokens of a well-formed function are those of some text
   pub fun_tokens_are : AreTokens (fun_tokens f)
   fun_tokens_are =
       let a = w.temps in let b = w.bools in let s = w.selectors in (
@@ -149,6 +157,7 @@ one_reading f g wf wg e =
 same_rest : (xs ys : List ℕ) → include_line ++ xs ≡ include_line ++ ys → xs ≡ ys
 same_rest xs ys h = cc
 
+-- the law
 pub one_function : OneFunction
 one_function text f g sf sg =
     let r : sf.rest ≡ sg.rest = same_rest sf.rest sg.rest (sym sf.begins ∙ sg.begins) in

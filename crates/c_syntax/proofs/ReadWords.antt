@@ -1,6 +1,5 @@
 -- The Word or Cond at the front of some tokens: a parser that inverts the tokens.
 use Rattle.std.proofs.Common.{◌≡◌, ℕ, zero, suc, ◌+◌, ◌≤◌, max, Bool, true, false, List, [], ◌∷◌, Option, Some, None, refl, sym, ap, ◌∙◌, subst, arith}
-use Rattle.dream_words.specs.declared.machine.Name.{Name}
 use Rattle.c_syntax.specs.declared.syntax.CBin.{CBin}
 use Rattle.c_syntax.specs.declared.syntax.CCmp.{CCmp}
 use Rattle.c_syntax.specs.declared.syntax.CFn1.{CFn1}
@@ -15,8 +14,10 @@ use Rattle.c_syntax.specs.declared.token.Token.TheVariants as t
 use Rattle.c_syntax.specs.Tokens.{Tokens, word_at, cond_at, word_tokens, cond_tokens}
 use Rattle.c_syntax.specs.Depth.{word_depth_at, cond_depth_at, word_depth, cond_depth}
 use Rattle.c_syntax.proofs.Items.{Item, Word, Cond, item_tokens, OneItem}
+use Rattle.c_syntax.proofs.Layers.{word_tokens_layer, cond_tokens_layer, word_depth_layer, cond_depth_layer}
 use Rattle.c_syntax.proofs.Induct.{WordCases, every_word, every_cond}
 
+-- the item that is read, and the tokens after it
 abbrev pub Found : Type 0
 Found = Option (Item × List Token)
 
@@ -29,6 +30,7 @@ abbrev pub with_cond : {B : Type 0} → Found → (CCond → List Token → Opti
 with_cond (Some (Cond d, ts)) next = next d ts
 with_cond _ next = None
 
+-- what must follow a part
 abbrev pub close : Item → List Token → Found
 close i (t.Close ∷ ts) = Some (i, ts)
 close i _ = None
@@ -53,6 +55,7 @@ cond_first item d (t.Both ∷ ts) = with_cond (item ts) (λ u. close (Cond (roll
 cond_first item d (t.Either ∷ ts) = with_cond (item ts) (λ u. close (Cond (roll-CCond (CCond-F.Or d u))))
 cond_first item d _ = None
 
+-- after an opening parenthesis and an item
 abbrev pub inner : (List Token → Found) → Found → Found
 inner item (Some (Word a, ts)) = word_first item a ts
 inner item (Some (Cond d, ts)) = cond_first item d ts
@@ -86,6 +89,7 @@ starts_item (t.Fn2 f) = true
 starts_item (t.Fn3 f) = true
 starts_item _ = false
 
+-- tokens that begin so
 abbrev pub Starts : List Token → Type 0
 Starts [] = ⊥
 Starts (x ∷ ts) = starts_item x ≡ true
@@ -95,12 +99,14 @@ pub record IsRead (i : Item) (p : Tokens) (d : ℕ) : Type 0 where
   pub reads : (k : ℕ) (r : List Token) → d ≤ k → item k (p r) ≡ Some (i, r)
   pub starts : (r : List Token) → Starts (p r)
 
+-- what begins an item is no `~` and no `!`
 pub opened_inner : (f : List Token → Found) (ts : List Token) → Starts ts → opened f ts ≡ inner f (f ts)
 opened_inner f [] s = absurd s
 opened_inner f (t.Tilde ∷ ts) s = absurd (cc)
 opened_inner f (t.Bang ∷ ts) s = absurd (cc)
 opened_inner f (x ∷ ts) s = refl
 
+-- a bound on the depth leaves one more for the parts
 pub at_least : (d : ℕ) (P : ℕ → Type 0) → ((k : ℕ) → d ≤ k → P (suc k)) → (k : ℕ) → suc d ≤ k → P k
 at_least d P h zero l = absurd (omega (arith, l))
 at_least d P h (suc k) l = h k (omega (arith, l))
@@ -112,6 +118,7 @@ then_word a p d q k r next l = ap (λ o. with_word o next) (q.reads k r l)
 pub then_cond : {B : Type 0} (u : CCond) (p : Tokens) (d : ℕ) (q : IsRead (Cond u) p d) (k : ℕ) (r : List Token) (next : CCond → List Token → Option B) → d ≤ k → with_cond (item k (p r)) next ≡ next u r
 then_cond u p d q k r next l = ap (λ o. with_cond o next) (q.reads k r l)
 
+-- the first item in parentheses
 pub first_word : (a : CExpr) (p : Tokens) (d : ℕ) (q : IsRead (Word a) p d) (k : ℕ) (r : List Token) → d ≤ k → opened (item k) (p r) ≡ word_first (item k) a r
 first_word a p d q k r l = opened_inner (item k) (p r) (q.starts r) ∙ ap (inner (item k)) (q.reads k r l)
 
@@ -119,6 +126,7 @@ pub first_cond : (u : CCond) (p : Tokens) (d : ℕ) (q : IsRead (Cond u) p d) (k
 first_cond u p d q k r l = opened_inner (item k) (p r) (q.starts r) ∙ ap (inner (item k)) (q.reads k r l)
 
 module _ (a b d : CExpr) (p q s : Tokens) (da db dd : ℕ) (ha : IsRead (Word a) p da) (hb : IsRead (Word b) q db) (hd : IsRead (Word d) s dd) where
+  -- each form of a Word
   not_word_read : IsRead (Word (roll-CExpr (CExpr-F.«CExpr::Not» a))) (word_at (CExpr-F.«CExpr::Not» p)) (suc (da))
   not_word_read = record {
     starts = λ r. refl;
@@ -154,6 +162,7 @@ module _ (a b d : CExpr) (p q s : Tokens) (da db dd : ℕ) (ha : IsRead (Word a)
         then_word a p da ha k (t.Comma ∷ q (t.Comma ∷ s (t.Close ∷ r))) _ (omega (arith, l)) ∙ then_word b q db hb k (t.Comma ∷ s (t.Close ∷ r)) _ (omega (arith, l)) ∙ then_word d s dd hd k (t.Close ∷ r) _ (omega (arith, l))) k;
   }
 
+  -- a comparison
   cmp_read : (op : CCmp) → IsRead (Cond (roll-CCond (CCond-F.Cmp op a b))) (cond_at (CCond-F.Cmp op p q)) (suc (max da db))
   cmp_read op = record {
     starts = λ r. refl;
@@ -162,6 +171,7 @@ module _ (a b d : CExpr) (p q s : Tokens) (da db dd : ℕ) (ha : IsRead (Word a)
   }
 
 module _ (u v : CCond) (a b : CExpr) (x y p q : Tokens) (du dv da db : ℕ) (hu : IsRead (Cond u) x du) (hv : IsRead (Cond v) y dv) (ha : IsRead (Word a) p da) (hb : IsRead (Word b) q db) where
+  -- the conditional word
   pick_read : IsRead (Word (roll-CExpr (CExpr-F.Pick u a b))) (word_at (CExpr-F.Pick x p q)) (suc (max du (max da db)))
   pick_read = record {
     starts = λ r. refl;
@@ -170,6 +180,7 @@ module _ (u v : CCond) (a b : CExpr) (x y p q : Tokens) (du dv da db : ℕ) (hu 
   }
 
 module _ (u v : CCond) (x y : Tokens) (du dv : ℕ) (hu : IsRead (Cond u) x du) (hv : IsRead (Cond v) y dv) where
+  -- the other forms of a Cond
   not_cond_read : IsRead (Cond (roll-CCond (CCond-F.«CCond::Not» u))) (cond_at (CCond-F.«CCond::Not» x)) (suc (du))
   not_cond_read = record {
     starts = λ r. refl;
@@ -191,18 +202,20 @@ module _ (u v : CCond) (x y : Tokens) (du dv : ℕ) (hu : IsRead (Cond u) x du) 
         first_cond u x du hu k _ (omega (arith, l)) ∙ then_cond v y dv hv k (t.Close ∷ r) _ (omega (arith, l))) k;
   }
 
+-- a layer over them
 word_layer : (d : ℕ) (y : CExpr-F CCond CExpr) → IsRead (Word (roll-CExpr y)) (word_at (e.map-CExpr CCond CExpr Tokens Tokens cond_tokens word_tokens y)) d
     → d ≤ word_depth_at (e.map-CExpr CCond CExpr ℕ ℕ cond_depth word_depth y) → IsRead (Word (roll-CExpr y)) (word_tokens (roll-CExpr y)) (word_depth (roll-CExpr y))
 word_layer d y h k =
-    let l : d ≤ word_depth (roll-CExpr y) = subst (λ n. d ≤ n) (sym (e.fold-roll-CExpr ℕ ℕ cond_depth_at word_depth_at y)) k in
-    subst (λ p. IsRead (Word (roll-CExpr y)) p (word_depth (roll-CExpr y))) (sym (e.fold-roll-CExpr Tokens Tokens cond_at word_at y)) (record { starts = h.starts; reads = λ m r n. h.reads m r (omega arith) })
+    let l : d ≤ word_depth (roll-CExpr y) = subst (λ n. d ≤ n) (sym (word_depth_layer y)) k in
+    subst (λ p. IsRead (Word (roll-CExpr y)) p (word_depth (roll-CExpr y))) (sym (word_tokens_layer y)) (record { starts = h.starts; reads = λ m r n. h.reads m r (omega arith) })
 
 cond_layer : (d : ℕ) (y : CCond-F CCond CExpr) → IsRead (Cond (roll-CCond y)) (cond_at (c.map-CCond CCond CExpr Tokens Tokens cond_tokens word_tokens y)) d
     → d ≤ cond_depth_at (c.map-CCond CCond CExpr ℕ ℕ cond_depth word_depth y) → IsRead (Cond (roll-CCond y)) (cond_tokens (roll-CCond y)) (cond_depth (roll-CCond y))
 cond_layer d y h k =
-    let l : d ≤ cond_depth (roll-CCond y) = subst (λ n. d ≤ n) (sym (c.fold-roll-CCond ℕ ℕ cond_depth_at word_depth_at y)) k in
-    subst (λ p. IsRead (Cond (roll-CCond y)) p (cond_depth (roll-CCond y))) (sym (c.fold-roll-CCond Tokens Tokens cond_at word_at y)) (record { starts = h.starts; reads = λ m r n. h.reads m r (omega arith) })
+    let l : d ≤ cond_depth (roll-CCond y) = subst (λ n. d ≤ n) (sym (cond_depth_layer y)) k in
+    subst (λ p. IsRead (Cond (roll-CCond y)) p (cond_depth (roll-CCond y))) (sym (cond_tokens_layer y)) (record { starts = h.starts; reads = λ m r n. h.reads m r (omega arith) })
 
+-- by cases
 reading : WordCases (λ a. IsRead (Word a) (word_tokens a) (word_depth a)) (λ u. IsRead (Cond u) (cond_tokens u) (cond_depth u))
 reading = record {
   num = λ n. word_layer 1 (CExpr-F.Num n) (record { starts = λ r. refl; reads = λ k r. at_least 0 (λ k. item k (t.Num n ∷ r) ≡ Some (Word (roll-CExpr (CExpr-F.Num n)), r)) (λ k l. refl) k }) (omega arith);
@@ -219,12 +232,14 @@ reading = record {
   either = λ u v hu hv. cond_layer _ (CCond-F.Or u v) (either_read u v _ _ _ _ hu hv) (omega arith);
 }
 
+-- every Word and every Cond is read
 pub word_read : (a : CExpr) → IsRead (Word a) (word_tokens a) (word_depth a)
 word_read a = every_word reading a
 
 pub cond_read : (u : CCond) → IsRead (Cond u) (cond_tokens u) (cond_depth u)
 cond_read u = every_cond reading u
 
+-- the depth of a Word or Cond
 abbrev pub item_depth : Item → ℕ
 item_depth (Word a) = word_depth a
 item_depth (Cond u) = cond_depth u
@@ -238,9 +253,11 @@ item_read (Cond u) k r l = (cond_read u).reads k r l
 pub none_begins : (d : ℕ) (ts : List Token) → item d ts ≡ None → (i : Item) (r : List Token) → item_depth i ≤ d → item_tokens i r ≡ ts → ⊥
 none_begins d ts h i r l e = let s : ◌≡◌ {A = Found} (Some (i, r)) None = sym (item_read i d r l) ∙ ap (item d) e ∙ h in cc
 
+-- what is found is one item and one rest
 found_pair : {x y : Item × List Token} → Some x ≡ Some y → x ≡ y
 found_pair {x} {y} h = ap (λ o. elim o as (λ _. Item × List Token) [ None ↦ x | Some z ↦ z ]) h
 
+-- tokens begin with those of at most one item
 pub one_item : OneItem
 one_item i j r s h =
     let k : ℕ = item_depth i + item_depth j in

@@ -4,32 +4,22 @@ use Rattle.dream_words.specs.declared.outcome.Outcome.{Outcome}
 use Rattle.dream_words.specs.declared.outcome.Outcome.TheVariants as outcome
 use Rattle.dream_words.specs.declared.outcome.Call.{Call}
 use Rattle.run_parts.specs.Parts.{Exit, Run, Ends, Goes, Past, Broke, Over, Stuck, skip, in_turn}
-use Rattle.run_parts.specs.Steps.{Halt, having}
+use Rattle.run_parts.specs.Steps.{Halt}
 use Rattle.run_parts.specs.World.{World, returned, start_world, outcome_of}
 use Rattle.run_parts.specs.Laws.{IsRun, Told, Shows, OutcomeShows, AllRuns, AllArms, AllGroups}
 use Rattle.run_parts.proofs.Runs.{skip_run, leave_run, in_turn_run, arms_run, switch_run, repeat_run, simply_run, having_shows, effects}
 use Rattle.c_syntax.specs.declared.syntax.CStmt as st
 use Rattle.c_syntax.specs.declared.syntax.CStmt.{CStmt, CStmt-F, roll-CStmt}
-use Rattle.c_syntax.specs.declared.syntax.CArm as arm
-use Rattle.c_syntax.specs.declared.syntax.CArm.{CArm, CArm-F, roll-CArm}
-use Rattle.c_syntax.specs.declared.syntax.CGroup as group
-use Rattle.c_syntax.specs.declared.syntax.CGroup.{CGroup, CGroup-F, roll-CGroup}
+use Rattle.c_syntax.specs.declared.syntax.CArm.{CArm}
+use Rattle.c_syntax.specs.declared.syntax.CGroup.{CGroup}
 use Rattle.c_syntax.specs.RunLaws.{Continues, MoreTurnsContinue}
-use Rattle.c_syntax.specs.Run.{Part, Test, word_in, holds, stmt_at, arm_at, group_at, run, run_arm, run_group, run_all, c_run}
+use Rattle.c_syntax.specs.Run.{Part, Test, word_in, stmt_at, run, run_arm, run_group, run_all}
+use Rattle.c_syntax.proofs.Layers.{run_layer, run_arm_layer, run_group_layer}
 use Rattle.c_syntax.proofs.Induct.{Each, StmtCases, every_stmt, each_stmt}
-
--- a statement does what its parts do, put together
-pub run_layer : (y : CStmt-F CStmt CArm CGroup) → run (roll-CStmt y) ≡ stmt_at (st.map-CStmt CStmt CArm CGroup Part (Test × Part) (List ℕ × Part) run run_arm run_group y)
-run_layer y = st.fold-roll-CStmt Part (Test × Part) (List ℕ × Part) stmt_at arm_at group_at y
-
-pub run_arm_layer : (y : CArm-F CStmt CArm CGroup) → run_arm (roll-CArm y) ≡ arm_at (arm.map-CArm CStmt CArm CGroup Part (Test × Part) (List ℕ × Part) run run_arm run_group y)
-run_arm_layer y = arm.fold-roll-CArm Part (Test × Part) (List ℕ × Part) stmt_at arm_at group_at y
-
-pub run_group_layer : (y : CGroup-F CStmt CArm CGroup) → run_group (roll-CGroup y) ≡ group_at (group.map-CGroup CStmt CArm CGroup Part (Test × Part) (List ℕ × Part) run run_arm run_group y)
-run_group_layer y = group.fold-roll-CGroup Part (Test × Part) (List ℕ × Part) stmt_at arm_at group_at y
 
 -- ---- each statement is a run
 
+-- statements, arms and groups that are runs
 runs_of : (body : List CStmt) → Each (λ s. IsRun (run s)) body → AllRuns (map run body)
 runs_of [] h = tt
 runs_of (s ∷ ss) h = (h.0, runs_of ss h.1)
@@ -42,12 +32,15 @@ groups_of : (groups : List CGroup) → Each (λ g. IsRun (run_group g).1) groups
 groups_of [] h = tt
 groups_of (g ∷ rest) h = (h.0, groups_of rest h.1)
 
+-- a body
 body_is : (body : List CStmt) → Each (λ s. IsRun (run s)) body → IsRun (in_turn (map run body))
 body_is body h = in_turn_run _ (runs_of body h)
 
+-- a statement by its parts
 by_layer : (y : CStmt-F CStmt CArm CGroup) → IsRun (stmt_at (st.map-CStmt CStmt CArm CGroup Part (Test × Part) (List ℕ × Part) run run_arm run_group y)) → IsRun (run (roll-CStmt y))
 by_layer y h = subst IsRun (sym (run_layer y)) h
 
+-- by cases
 cases : StmtCases (λ s. IsRun (run s)) (λ a. IsRun (run_arm a).1) (λ g. IsRun (run_group g).1)
 cases = record {
   set = λ n a. by_layer (CStmt-F.Set n a) (simply_run _ (λ w. having_shows w.calls (word_in a w) _ (λ x. effects.setting_is n x w)));
@@ -67,14 +60,17 @@ cases = record {
   group_of = λ values body hb. subst (λ g. IsRun g.1) (sym (run_group_layer (record { values = values; body = body }))) (body_is body hb);
 }
 
+-- every statement is a run
 pub run_is : (s : CStmt) → IsRun (run s)
 run_is s = every_stmt cases s
 
+-- and so are statements one after another
 pub run_all_is : (body : List CStmt) → IsRun (run_all body)
 run_all_is body = body_is body (each_stmt cases body)
 
 -- ---- the outcome of a whole run
 
+-- calls that a run shows its outcome shows
 shown : (c : List Call) (r : Run World Outcome) → Shows c r → OutcomeShows c (outcome_of r)
 shown c (Ends (Past w) m) h = h
 shown c (Ends (Broke w) m) h = tt
@@ -99,11 +95,13 @@ at_end (Broke w) f g = refl
 at_end (Over o) f g = refl
 at_end Stuck f g = refl
 
+-- what a run tells its outcome tells
 outcome_told : (p : ℕ → Run World Outcome) (m k : ℕ) (r : Run World Outcome) → Told p m r → Continues (outcome_of r) (outcome_of (p (m + k)))
 outcome_told p m k (Ends x f) t =
     stays (outcome_of (Ends x f)) (outcome_of (p (m + k)))
     (ap (λ n. outcome_of (p n)) (let z : m + k ≡ t.0 + (f + k) = omega (arith, t.1) in z) ∙ ap outcome_of (t.2 (f + k)) ∙ at_end x (f + k) f)
 outcome_told p m k (Goes w) t = shown w.calls (p (m + k)) (t k)
 
+-- the law
 pub more_turns : MoreTurnsContinue
 more_turns f start answers m k = outcome_told (λ n. run_all f.body n (start_world start answers)) m k _ ((run_all_is f.body).told m (start_world start answers))

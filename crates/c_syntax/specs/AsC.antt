@@ -1,13 +1,12 @@
 -- What a reader of C expects of Words, Conds and statements, case by case.
-use Rattle.std.specs.Prelude.{◌≡◌, ℕ, suc, ◌≤◌, Bool, true, false, List, [], ◌∷◌, Option, Some, None}
+use Rattle.std.specs.Prelude.{◌≡◌, ℕ, suc, ◌≤◌, true, false, List, [], ◌∷◌, Some, None}
 use Rattle.dream_words.specs.declared.machine.Name.{Name}
 use Rattle.dream_words.specs.declared.machine.Name.TheVariants as name
 use Rattle.dream_words.specs.declared.machine.Bit.TheVariants.{Undefined}
 use Rattle.dream_words.specs.declared.outcome.Start.{Start}
 use Rattle.dream_words.specs.declared.outcome.Answer.{Answer}
-use Rattle.dream_words.specs.declared.outcome.Outcome.{Outcome}
 use Rattle.dream_words.specs.declared.outcome.Outcome.TheVariants as outcome
-use Rattle.run_parts.specs.Parts.{Exit, Past, Over, Stuck, Run, Ends, Goes, has, catch_break}
+use Rattle.run_parts.specs.Parts.{Past, Over, Stuck, Ends, Goes, has, catch_break}
 use Rattle.run_parts.specs.World.{Names, World, start_names, start_world, returned}
 use Rattle.c_syntax.specs.declared.syntax.CBin.TheVariants.{Shl, Shr}
 use Rattle.c_syntax.specs.declared.syntax.CExpr.{CExpr, CExpr-F, roll-CExpr}

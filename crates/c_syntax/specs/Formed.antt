@@ -1,8 +1,9 @@
 -- Which functions are well formed: those that some text stands for. These are the conditions that the productions of the
 -- grammar don't say by themselves.
-use Rattle.std.specs.Prelude.{ℕ, ◌<◌, ◌≤◌, ◌^◌, Bool, true, false, not, ◌&&◌, ◌||◌, nat_eq, nat_lt, nat_le, IsTrue, List, [], ◌∷◌, ◌++◌, Option, Some, None}
+use Rattle.std.specs.Prelude.{ℕ, ◌<◌, ◌≤◌, ◌^◌, Bool, true, false, not, ◌&&◌, nat_lt, nat_le, IsTrue, List, [], ◌∷◌, ◌++◌, Option, Some, None}
 use Rattle.dream_words.specs.declared.machine.Name.{Name}
 use Rattle.dream_words.specs.declared.machine.Name.TheVariants as name
+use Rattle.run_parts.specs.Parts.{has}
 use Rattle.c_syntax.specs.declared.syntax.CExpr.{CExpr, CExpr-F, fold-CExpr}
 use Rattle.c_syntax.specs.declared.syntax.CCond.{CCond, CCond-F, fold-CCond}
 use Rattle.c_syntax.specs.declared.syntax.CStmt.{CStmt, CStmt-F, fold-CStmt}
@@ -63,15 +64,10 @@ names_word f = fold-CExpr Bool Bool cond_names (word_names f)
 abbrev pub names_cond : CFun → CCond → Bool
 names_cond f = fold-CCond Bool Bool cond_names (word_names f)
 
--- the number stands in the list
-abbrev pub is_in : ℕ → List ℕ → Bool
-is_in v [] = false
-is_in v (w ∷ ws) = nat_eq v w || is_in v ws
-
 -- no number stands twice
 abbrev pub are_distinct : List ℕ → Bool
 are_distinct [] = true
-are_distinct (v ∷ vs) = not (is_in v vs) && are_distinct vs
+are_distinct (v ∷ vs) = not (has vs v) && are_distinct vs
 
 -- each number is a word
 abbrev pub are_words : List ℕ → Bool

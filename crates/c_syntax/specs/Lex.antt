@@ -1,5 +1,5 @@
 -- The tokens of a text, each as its bytes (C99 6.4).
-use Rattle.std.specs.Prelude.{ℕ, Bool, true, false, ◌&&◌, ◌||◌, nat_eq, nat_le, List, [], ◌∷◌, ◌++◌, if◌then◌else◌}
+use Rattle.std.specs.Prelude.{ℕ, Bool, false, ◌&&◌, ◌||◌, nat_eq, nat_le, List, [], ◌∷◌, ◌++◌, if◌then◌else◌}
 
 -- 0 to 9
 abbrev pub is_digit : ℕ → Bool

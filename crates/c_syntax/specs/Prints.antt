@@ -1,5 +1,5 @@
 -- Two functions and their canonical texts, letter by letter. No law on tokens says where blanks and line ends stand.
-use Rattle.std.specs.Prelude.{◌≡◌, ℕ, List, [], ◌∷◌, ◌++◌, ◌≤◌, replicate, Option, Some, None, codes, length}
+use Rattle.std.specs.Prelude.{◌≡◌, ℕ, [], ◌∷◌, ◌++◌, ◌≤◌, replicate, Some, codes, length}
 use Rattle.dream_words.specs.declared.machine.Width.TheVariants as width
 use Rattle.dream_words.specs.declared.machine.Name.TheVariants as name
 use Rattle.c_syntax.specs.declared.syntax.CBin.TheVariants as bin
@@ -8,12 +8,12 @@ use Rattle.c_syntax.specs.declared.syntax.CFn1.TheVariants as fn1
 use Rattle.c_syntax.specs.declared.syntax.CFn2.TheVariants as fn2
 use Rattle.c_syntax.specs.declared.syntax.CFn3.TheVariants as fn3
 use Rattle.c_syntax.specs.declared.syntax.CExpr.{CExpr, CExpr-F, roll-CExpr}
-use Rattle.c_syntax.specs.declared.syntax.CCond.{CCond, CCond-F, roll-CCond}
+use Rattle.c_syntax.specs.declared.syntax.CCond.{CCond-F, roll-CCond}
 use Rattle.c_syntax.specs.declared.syntax.CStmt.{CStmt, CStmt-F, roll-CStmt}
-use Rattle.c_syntax.specs.declared.syntax.CArm.{CArm, roll-CArm}
-use Rattle.c_syntax.specs.declared.syntax.CGroup.{CGroup, roll-CGroup}
+use Rattle.c_syntax.specs.declared.syntax.CArm.{roll-CArm}
+use Rattle.c_syntax.specs.declared.syntax.CGroup.{roll-CGroup}
 use Rattle.c_syntax.specs.declared.syntax.CFun.{CFun}
-use Rattle.c_syntax.specs.Text.{Text, indent, canonical_text}
+use Rattle.c_syntax.specs.Text.{Text, include_line, indent, canonical_text}
 
 -- ---- a function is built of these
 
@@ -142,6 +142,7 @@ text_of_each_statement =
 
 -- ---- the claims
 pub record PrintsSo : Type 0 where
+  pub include_has_22_bytes : length include_line ≡ 22
   pub returns_five_is : canonical_text returns_five ≡ text_of_five
   pub five_has_95_bytes : length text_of_five ≡ 95
   -- levels past 32 are indented as 32, by 64 spaces

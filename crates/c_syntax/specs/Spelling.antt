@@ -1,5 +1,5 @@
 -- How tokens are spelled. Texts and lists of tokens share these spellings.
-use Rattle.std.specs.Prelude.{ℕ, zero, suc, ◌+◌, ◌/◌, ◌%◌, false, List, [], ◌∷◌, ◌++◌, codes, slice_index_or}
+use Rattle.std.specs.Prelude.{ℕ, zero, suc, ◌/◌, ◌%◌, false, List, [], ◌∷◌, ◌++◌, codes, slice_index_or}
 use Rattle.std.specs.Fmt.{digits, digit_glyph}
 use Rattle.dream_words.specs.declared.machine.Width.{Width}
 use Rattle.dream_words.specs.declared.machine.Width.TheVariants as width

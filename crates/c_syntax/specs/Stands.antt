@@ -1,5 +1,5 @@
 -- Which texts stand for a function, and the laws on them.
-use Rattle.std.specs.Prelude.{◌≡◌, List, [], ◌∷◌, ◌++◌, ℕ, map}
+use Rattle.std.specs.Prelude.{◌≡◌, List, ◌++◌, ℕ, map}
 use Rattle.c_syntax.specs.declared.syntax.CFun.{CFun}
 use Rattle.c_syntax.specs.Lex.{tokens_in}
 use Rattle.c_syntax.specs.Spelling.{spelling}

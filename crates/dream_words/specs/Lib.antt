@@ -1,4 +1,5 @@
 pub mod Words
+pub mod Signed
 pub mod Registers
 pub mod Memory
 pub mod Ranges

@@ -81,12 +81,12 @@ abbrev pub has_even_ones : ℕ → Bool
 has_even_ones v = count_ones (v % 2 ^ 8) % 2 == 0
 
 -- the place of the lowest of the low k bits that is 1, or k where none is
-abbrev pub lowest_one : ℕ → ℕ → ℕ
+unfoldable pub lowest_one : ℕ → ℕ → ℕ
 lowest_one zero v = 0
 lowest_one (suc k) v = if v % 2 == 1 then 0 else lowest_one k (v / 2) + 1
 
 -- the place of the highest of the low k bits that is 1, or 0 where none is
-abbrev pub highest_one : ℕ → ℕ → ℕ
+unfoldable pub highest_one : ℕ → ℕ → ℕ
 highest_one zero v = 0
 highest_one (suc k) v = if nat_le (2 ^ k) v then k else highest_one k v
 

@@ -7,9 +7,18 @@ mod laws;
 mod machine;
 mod memory;
 mod outcome;
+mod signed;
+#[cfg(test)]
+mod tests;
 mod tree;
+mod words;
 
 pub use laws::agreements_compose;
 pub use machine::{Bit, Flags, Name, Regs, Width};
 pub use memory::Memory;
 pub use outcome::{Answer, Call, Outcome, Start};
+pub use signed::{div_s, mul_hi_s};
+pub use words::{
+    borrow, carry_add, div_u, highest_one, less_signed, low, lowest_one, mul_hi_u, over_add,
+    over_sub, parity, shifted_signed, sign, sx,
+};

@@ -62,6 +62,44 @@ pub struct Regs {
     pub edi: u32,
 }
 
+impl Regs {
+    ghost use Rattle.dream_words.specs.Registers.{reg_of, with_reg};
+
+    /// The register of a number, or 0 past the last.
+    pub fn get(&self, n: u8) -> u32
+        ensures { result ≡ reg_of self.now n }
+    {
+        match n {
+            0 => self.eax,
+            1 => self.ecx,
+            2 => self.edx,
+            3 => self.ebx,
+            4 => self.esp,
+            5 => self.ebp,
+            6 => self.esi,
+            7 => self.edi,
+            _ => 0,
+        }
+    }
+
+    /// Sets the register of a number, and none past the last.
+    pub fn set(&mut self, n: u8, v: u32)
+        ensures { self.new ≡ with_reg self.old n v }
+    {
+        match n {
+            0 => self.eax = v,
+            1 => self.ecx = v,
+            2 => self.edx = v,
+            3 => self.ebx = v,
+            4 => self.esp = v,
+            5 => self.ebp = v,
+            6 => self.esi = v,
+            7 => self.edi = v,
+            _ => {}
+        }
+    }
+}
+
 /// A flag, which some instructions leave undefined.
 #[derive(Clone, Copy, Debug, PartialEq, Eq)]
 pub enum Bit {

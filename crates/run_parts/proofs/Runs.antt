@@ -1,17 +1,16 @@
 -- What is made of runs is a run.
 use Rattle.std.proofs.Common.{map, ◌≡◌, ℕ, zero, suc, ◌+◌, ◌≤◌, ◌<◌, nat_eq, Bool, true, false, if◌then◌else◌, List, [], ◌∷◌, ◌++◌, Option, Some, None, refl, sym, ap, ◌∙◌, subst, arith, append_assoc, append-nil}
-use Rattle.dream_words.specs.declared.machine.Width.{Width}
-use Rattle.dream_words.specs.declared.machine.Name.{Name}
 use Rattle.dream_words.specs.declared.outcome.Answer.{Answer}
 use Rattle.dream_words.specs.declared.outcome.Call.{Call}
 use Rattle.dream_words.specs.declared.outcome.Outcome.{Outcome}
 use Rattle.dream_words.specs.declared.outcome.Outcome.TheVariants as outcome
 use Rattle.run_parts.specs.Parts.{Exit, Past, Broke, Over, Stuck, Run, Ends, Goes, Part, Test, skip, leave_loop, goes_on, on, after, seq, in_turn, decide, choose, first_arm, caught, catch_break, has, group_of, given, switch, round, turn, rounds, repeat}
 use Rattle.run_parts.specs.Steps.{Did, Next, Halt, Jam, having, done, simply, do_all, then_do}
-use Rattle.run_parts.specs.World.{World, returned}
-use Rattle.run_parts.specs.Effects.{Doing, setting, loading, storing, answered_by, calling, trapping}
+use Rattle.run_parts.specs.World.{World}
+use Rattle.run_parts.specs.Effects.{Doing, answered_by}
 use Rattle.run_parts.specs.Laws.{Begins, OutcomeShows, ExitShows, Shows, DidShows, Told, IsRun, AllRuns, AllArms, AllGroups, PartsAreRuns, EffectsAreRuns}
 
+-- runs and parts of a world
 abbrev R : Type 0
 R = Run World Outcome
 
@@ -24,6 +23,7 @@ begins_self xs = ([], sym (append-nil xs))
 pub begins_on : (xs ys zs : List Call) → Begins xs ys → Begins ys zs → Begins xs zs
 begins_on xs ys zs a b = (a.0 ++ b.0, b.1 ∙ ap (λ l. l ++ b.0) a.1 ∙ append_assoc xs a.0 b.0)
 
+-- what shows more calls shows fewer
 outcome_on : (xs ys : List Call) (o : Outcome) → Begins xs ys → OutcomeShows ys o → OutcomeShows xs o
 outcome_on xs ys (outcome.Returned r m c) a h = begins_on xs ys c a h
 outcome_on xs ys (outcome.Faulted v m c) a h = begins_on xs ys c a h
@@ -42,10 +42,12 @@ shows_on xs ys (Goes w) a h = begins_on xs ys w.calls a h
 
 -- ---- what follows a run
 
+-- a run and what follows it
 on_shows : (c : List Call) (r : R) (k : Exit World Outcome → ℕ → R) → Shows c r → ((x : Exit World Outcome) (m : ℕ) → ExitShows c x → Shows c (k x m)) → Shows c (on r k)
 on_shows c (Ends x m) k h s = s x m h
 on_shows c (Goes w) k h s = h
 
+-- where the run ends
 end_on : (p : ℕ → R) (k : Exit World Outcome → ℕ → R) (m u f : ℕ) (x : Exit World Outcome) → u + f ≡ m → ((g : ℕ) → p (u + g) ≡ Ends x g) → (r : R) → Told (k x) f r → Told (λ n. on (p n) k) m r
 end_on p k m u f x e h (Ends y g) t = (
   u + t.0,
@@ -62,6 +64,7 @@ on_told : (p : ℕ → R) (k : Exit World Outcome → ℕ → R) (m : ℕ) (r : 
 on_told p k m (Ends x f) t h s = end_on p k m t.0 f x t.1 t.2 (k x f) (h x f (omega (arith, t.1)))
 on_told p k m (Goes w) t h s = λ j. on_shows w.calls (p (m + j)) k (t j) (s w.calls)
 
+-- equal runs tell the same
 told_same : (p q : ℕ → R) (m : ℕ) (r : R) → ((n : ℕ) → p n ≡ q n) → Told q m r → Told p m r
 told_same p q m (Ends x f) e t = (t.0, t.1, λ g. e (t.0 + g) ∙ t.2 g)
 told_same p q m (Goes w) e t = λ k. subst (Shows w.calls) (sym (e (m + k))) (t k)
@@ -70,6 +73,7 @@ told_same p q m (Goes w) e t = λ k. subst (Shows w.calls) (sym (e (m + k))) (t 
 at_once : (x : Exit World Outcome) (m : ℕ) → Told (Ends x) m (Ends x m)
 at_once x m = (0, omega arith, λ g. ap (λ n. Ends x n) (let z : 0 + g ≡ g = omega arith in z))
 
+-- nothing, and a break
 pub skip_run : IsRun skip
 skip_run = record { grows = λ m w. begins_self w.calls; told = λ m w. at_once (Past w) m }
 
@@ -78,6 +82,7 @@ leave_run = record { grows = λ m w. begins_self w.calls; told = λ m w. at_once
 
 -- ---- sequence
 
+-- the second part after the first
 after_shows : (b : P) → IsRun b → (c : List Call) (x : Exit World Outcome) (m : ℕ) → ExitShows c x → Shows c (after b x m)
 after_shows b i c (Past w) m h = shows_on c w.calls (b m w) h (i.grows m w)
 after_shows b i c (Broke w) m h = h
@@ -90,18 +95,21 @@ after_told b i (Broke w) n = at_once (Broke w) n
 after_told b i (Over o) n = at_once (Over o) n
 after_told b i Stuck n = at_once Stuck n
 
+-- one part and then another
 pub seq_run : (a b : P) → IsRun a → IsRun b → IsRun (seq a b)
 seq_run a b i j = record {
   grows = λ m w. on_shows w.calls (a m w) (after b) (i.grows m w) (after_shows b j w.calls);
   told = λ m w. on_told (λ n. a n w) (after b) m (a m w) (i.told m w) (λ x n l. after_told b j x n) (after_shows b j);
 }
 
+-- parts one after another
 pub in_turn_run : (parts : List P) → AllRuns parts → IsRun (in_turn parts)
 in_turn_run [] h = skip_run
 in_turn_run (a ∷ rest) h = seq_run a (in_turn rest) h.0 (in_turn_run rest h.1)
 
 -- ---- choice
 
+-- one of two parts, by what a test gave
 decide_shows : (c : List Call) (o : Option Bool) (a b : P) (m : ℕ) (w : World) → Shows c (a m w) → Shows c (b m w) → Shows c (decide o a b m w)
 decide_shows c None a b m w h i = tt
 decide_shows c (Some true) a b m w h i = h
@@ -112,18 +120,21 @@ decide_told None a b m w h i = at_once Stuck m
 decide_told (Some true) a b m w h i = h
 decide_told (Some false) a b m w h i = i
 
+-- one of two parts, by a test
 pub choose_run : (t : Test World) (a b : P) → IsRun a → IsRun b → IsRun (choose t a b)
 choose_run t a b i j = record {
   grows = λ m w. decide_shows w.calls (t w) a b m w (i.grows m w) (j.grows m w);
   told = λ m w. decide_told (t w) a b m w (i.told m w) (j.told m w);
 }
 
+-- the first arm whose test holds
 pub arms_run : (arms : List (Test World × P)) (last : P) → AllArms arms → IsRun last → IsRun (first_arm arms last)
 arms_run [] last h i = i
 arms_run (a ∷ rest) last h i = choose_run a.0 a.1 (first_arm rest last) h.0 (arms_run rest last h.1 i)
 
 -- ---- switch
 
+-- a break that is caught
 caught_shows : (c : List Call) (x : Exit World Outcome) (m : ℕ) → ExitShows c x → Shows c (caught x m)
 caught_shows c (Past w) m h = h
 caught_shows c (Broke w) m h = h
@@ -136,12 +147,14 @@ caught_told (Broke w) n = at_once (Past w) n
 caught_told (Over o) n = at_once (Over o) n
 caught_told Stuck n = at_once Stuck n
 
+-- a part whose breaks are caught
 pub catch_run : (a : P) → IsRun a → IsRun (catch_break a)
 catch_run a i = record {
   grows = λ m w. on_shows w.calls (a m w) caught (i.grows m w) (caught_shows w.calls);
   told = λ m w. on_told (λ n. a n w) caught m (a m w) (i.told m w) (λ x n l. caught_told x n) caught_shows;
 }
 
+-- one of two runs
 if_shows : (c : List Call) (b : Bool) (x y : R) → Shows c x → Shows c y → Shows c (if b then x else y)
 if_shows c true x y h i = h
 if_shows c false x y h i = i
@@ -150,6 +163,7 @@ if_told : (b : Bool) (p q : ℕ → R) (m : ℕ) → Told p m (p m) → Told q m
 if_told true p q m h i = h
 if_told false p q m h i = i
 
+-- the group of a value
 pub groups_run : (groups : List (List ℕ × P)) (last : P) (x : ℕ) → AllGroups groups → IsRun last → IsRun (group_of groups last x)
 groups_run [] last x h i = record { grows = i.grows; told = i.told }
 groups_run (g ∷ gs) last x h i = let rest = groups_run gs last x h.1 i in record {
@@ -157,6 +171,7 @@ groups_run (g ∷ gs) last x h i = let rest = groups_run gs last x h.1 i in reco
   told = λ m w. if_told (has g.0 x) (λ n. g.1 n w) (λ n. group_of gs last x n w) m (h.0.told m w) (rest.told m w);
 }
 
+-- a part that is chosen by a word
 given_shows : (c : List Call) (o : Option ℕ) (f : ℕ → P) (m : ℕ) (w : World) → ((x : ℕ) → Shows c (f x m w)) → Shows c (given o f m w)
 given_shows c None f m w h = tt
 given_shows c (Some x) f m w h = h x
@@ -165,6 +180,7 @@ given_told : (o : Option ℕ) (f : ℕ → P) (m : ℕ) (w : World) → ((x : �
 given_told None f m w h = at_once Stuck m
 given_told (Some x) f m w h = h x
 
+-- a switch
 pub switch_run : (v : World → Option ℕ) (groups : List (List ℕ × P)) (last : P) → AllGroups groups → IsRun last → IsRun (switch v groups last)
 switch_run v groups last h i = catch_run (λ m w. given (v w) (group_of groups last) m w) (record {
   grows = λ m w. given_shows w.calls (v w) (group_of groups last) m w (λ x. (groups_run groups last x h i).grows m w);
@@ -174,6 +190,7 @@ switch_run v groups last h i = catch_run (λ m w. given (v w) (group_of groups l
 -- ---- loops
 
 module _ (enter : Test World) (body : P) (again : Test World) (i : IsRun body) where
+  -- a round, and rounds, show the calls so far
   round_shows : (next : P) (c : List Call) (x : Exit World Outcome) (m : ℕ) → ((w : World) → Shows w.calls (next m w)) → ExitShows c x → Shows c (round again next x m)
   round_shows next c (Past w) m g h = decide_shows c (again w) next skip m w (shows_on c w.calls (next m w) h (g w)) h
   round_shows next c (Broke w) m g h = h
@@ -187,6 +204,7 @@ module _ (enter : Test World) (body : P) (again : Test World) (i : IsRun body) w
       (on_shows w.calls (body m w) (round again (rounds g enter body again)) (i.grows m w) (λ x n. round_shows (rounds g enter body again) w.calls x n (rounds_shows g n)))
       (begins_self w.calls)
 
+  -- what follows a round matters only in the turns that are left
   round_gas : (p q : P) (m : ℕ) (w : World) (r : R) → Told (λ n. body n w) m r → ((t : World) (f : ℕ) → f ≤ m → p f t ≡ q f t) → on r (round again p) ≡ on r (round again q)
   round_gas p q m w (Ends (Past t) f) e h = pick (again t)
     where
@@ -199,6 +217,7 @@ module _ (enter : Test World) (body : P) (again : Test World) (i : IsRun body) w
   round_gas p q m w (Ends Stuck f) e h = refl
   round_gas p q m w (Goes t) e h = refl
 
+  -- a loop that is entered or not
   entering : (o : Option Bool) (a b : P) (m : ℕ) (w : World) → a m w ≡ b m w → decide o a skip m w ≡ decide o b skip m w
   entering None a b m w e = refl
   entering (Some true) a b m w e = e
@@ -223,6 +242,7 @@ module _ (enter : Test World) (body : P) (again : Test World) (i : IsRun body) w
       entering (enter w) (turn body again (rounds m enter body again)) (turn body again (repeat enter body again)) (suc m) w
       (round_gas (rounds m enter body again) (repeat enter body again) m w (body m w) (i.told m w) (λ t f le. gas m f f t le (omega arith)))
 
+  -- a loop, and a turn of it, show the calls so far
   repeat_shows : (m : ℕ) (w : World) → Shows w.calls (repeat enter body again m w)
   repeat_shows m w = rounds_shows m m w
 
@@ -235,12 +255,14 @@ module _ (enter : Test World) (body : P) (again : Test World) (i : IsRun body) w
   one_more p m (Ends x f) t = (suc t.0, omega (arith, t.1), λ g. ap p (let z : suc t.0 + g ≡ suc (t.0 + g) = omega arith in z) ∙ t.2 g)
   one_more p m (Goes w) t = λ k. subst (λ n. Shows w.calls (p n)) (let z : suc (m + k) ≡ suc m + k = omega arith in z) (t k)
 
+  -- a round tells what its parts tell
   round_told : (next : P) (x : Exit World Outcome) (n : ℕ) → ((w : World) → Told (λ n. next n w) n (next n w)) → Told (round again next x) n (round again next x n)
   round_told next (Past w) n h = decide_told (again w) next skip n w (h w) (at_once (Past w) n)
   round_told next (Broke w) n h = at_once (Past w) n
   round_told next (Over o) n h = at_once (Over o) n
   round_told next Stuck n h = at_once Stuck n
 
+  -- so does a turn
   turn_told : (m : ℕ) (w : World) → ((n : ℕ) → n < m → (t : World) → Told (λ k. repeat enter body again k t) n (repeat enter body again n t))
       → Told (λ n. turn body again (repeat enter body again) n w) m (turn body again (repeat enter body again) m w)
   turn_told zero w h = λ k. turn_shows (0 + k) w
@@ -248,6 +270,7 @@ module _ (enter : Test World) (body : P) (again : Test World) (i : IsRun body) w
       (on_told (λ n. body n w) (round again (repeat enter body again)) m (body m w) (i.told m w)
       (λ x n l. round_told (repeat enter body again) x n (h n (omega (arith, l)))) (λ c x n. round_shows (repeat enter body again) c x n (repeat_shows n)))
 
+  -- so does a loop, by induction on the turns
   repeat_told : (bound m : ℕ) → m < bound → (w : World) → Told (λ n. repeat enter body again n w) m (repeat enter body again m w)
   repeat_told zero m l w = absurd (let z : ⊥ = omega (arith, l) in z)
   repeat_told (suc bound) m l w =
@@ -255,11 +278,13 @@ module _ (enter : Test World) (body : P) (again : Test World) (i : IsRun body) w
       (subst (Told (λ n. choose enter (turn body again (repeat enter body again)) skip n w) m) (sym (unfold_repeat m w))
       (decide_told (enter w) (turn body again (repeat enter body again)) skip m w (turn_told m w (λ n k t. repeat_told bound n (omega (arith, k, l)) t)) (at_once (Past w) m)))
 
+  -- a loop
   pub repeat_run : IsRun (repeat enter body again)
   repeat_run = record { grows = repeat_shows; told = λ m w. repeat_told (suc m) m (omega arith) w }
 
 -- ---- simple statements
 
+-- what a simple statement does
 done_shows : (c : List Call) (d : Doing) (m : ℕ) → DidShows c d → Shows c (done d m)
 done_shows c (Next w) m h = h
 done_shows c (Halt o) m h = h
@@ -270,21 +295,26 @@ done_told (Next w) m = at_once (Past w) m
 done_told (Halt o) m = at_once (Over o) m
 done_told Jam m = at_once Stuck m
 
+-- a simple statement
 pub simply_run : (f : World → Doing) → ((w : World) → DidShows w.calls (f w)) → IsRun (simply f)
 simply_run f h = record { grows = λ m w. done_shows w.calls (f w) m (h w); told = λ m w. done_told (f w) m }
 
+-- a word that is evaluated first
 pub having_shows : {A : Type 0} (c : List Call) (o : Option A) (k : A → Doing) → ((x : A) → DidShows c (k x)) → DidShows c (having o k)
 having_shows c None k h = tt
 having_shows c (Some x) k h = h x
 
+-- a call
 answered_shows : (c : List Call) (left : List Answer) (calls : List Call) (w : World) → Begins c calls → DidShows c (answered_by left calls w)
 answered_shows c [] calls w h = h
 answered_shows c (a ∷ rest) calls w h = h
 
+-- a fault
 trap_shows : (vector : ℕ) (b : Bool) (w : World) → DidShows w.calls (if b then Next w else Halt (outcome.Faulted vector w.mem w.calls))
 trap_shows vector true w = begins_self w.calls
 trap_shows vector false w = begins_self w.calls
 
+-- the law on simple statements
 pub effects : EffectsAreRuns
 effects = record {
   setting_is = λ n x w. begins_self w.calls;
@@ -295,6 +325,7 @@ effects = record {
   returning_is = λ w. begins_self w.calls;
 }
 
+-- the law on parts
 pub parts : PartsAreRuns
 parts = record {
   skip_is = skip_run;
@@ -328,6 +359,7 @@ goes_later a i m k w v e = (subst (Told (λ n. a n w) m) e (i.told m w)) k
 
 -- ---- a block's statements
 
+-- what follows a simple statement
 after_done : {S E : Type 0} (d : Did S E) (fs : List (S → Did S E)) (m : ℕ) → ((t : S) → in_turn (map simply fs) m t ≡ done (do_all fs t) m) → on (done d m) (after (in_turn (map simply fs))) ≡ done (then_do d (do_all fs)) m
 after_done (Next t) fs m h = h t
 after_done (Halt e) fs m h = refl

@@ -6,7 +6,7 @@ use Rattle.dream_words.specs.declared.outcome.Call.{Call}
 use Rattle.dream_words.specs.declared.outcome.Outcome.{Outcome}
 use Rattle.dream_words.specs.declared.outcome.Outcome.TheVariants as outcome
 use Rattle.run_parts.specs.Parts.{Exit, Past, Broke, Over, Stuck, Run, Ends, Goes, Part, Test, skip, leave_loop, seq, in_turn, choose, first_arm, catch_break, switch, turn, repeat}
-use Rattle.run_parts.specs.Steps.{Did, Next, Halt, Jam, simply}
+use Rattle.run_parts.specs.Steps.{Next, Halt, Jam, simply}
 use Rattle.run_parts.specs.World.{World, returned}
 use Rattle.run_parts.specs.Effects.{Doing, setting, loading, storing, calling, trapping}
 

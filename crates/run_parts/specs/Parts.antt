@@ -1,6 +1,6 @@
 -- What a part of a program does: a function from the loop turns that may still be made, and the state, to its run.
 -- Texts, trees and flows are told in these parts, for any type of states S and any type of ends E.
-use Rattle.std.specs.Prelude.{◌≡◌, ℕ, zero, suc, nat_eq, Bool, true, false, if◌then◌else◌, List, [], ◌∷◌, Option, Some, None}
+use Rattle.std.specs.Prelude.{ℕ, zero, suc, nat_eq, Bool, true, false, if◌then◌else◌, List, [], ◌∷◌, Option, Some, None}
 
 -- How a part ends: at its own end, by a break out of it, with the whole run, or stuck.
 pub data Exit (S E : Type 0) : Type 0 where
