@@ -1,10 +1,12 @@
 -- A straight line of forms, as code and as C. Only of this stage.
-use Rattle.std.specs.Prelude.{◌≡◌, ℕ, zero, suc, ◌+◌, ◌%◌, ◌^◌, true, false, List, [], ◌∷◌, ◌++◌, Some, None}
+use Rattle.std.specs.Prelude.{◌≡◌, ◌⊎◌, ℕ, ◌+◌, ◌%◌, ◌^◌, ◌<◌, ◌≤◌, true, false, List, [], ◌∷◌, length, take, Some, None}
 use Rattle.elf_image.specs.declared.image.Segment.{Segment}
 use Rattle.elf_image.specs.declared.range.Range.{Range}
 use Rattle.elf_image.specs.Range.{is_inside}
 use Rattle.dream_words.specs.declared.machine.Name.TheVariants.{Reg}
 use Rattle.x86_inst.specs.declared.Inst.{Inst}
+use Rattle.x86_inst.specs.Spelling.{Spells}
+use Rattle.x86_decode.specs.Decodes.{NoneBegins, IsBegun}
 use Rattle.machine.specs.declared.form.Form.{Form}
 use Rattle.machine.specs.declared.form.Form.TheVariants as form
 use Rattle.machine.specs.Meaning.{form_of, HasWords}
@@ -16,6 +18,10 @@ use Rattle.c_syntax.specs.declared.syntax.CFun.{CFun}
 use Rattle.dream_engine.specs.declared.line.Exit.{Exit}
 use Rattle.dream_engine.specs.declared.line.Exit.TheVariants as exit
 use Rattle.dream_engine.specs.declared.line.Line.{Line}
+use Rattle.dream_engine.specs.declared.line.Step.{Step}
+use Rattle.dream_engine.specs.declared.line.Step.TheVariants as step
+use Rattle.dream_engine.specs.declared.place.Cause.{Cause}
+use Rattle.dream_engine.specs.declared.place.Cause.TheVariants as cause
 
 -- An instruction of the form begins at the address, and the next one is b.
 pub record IsAt (m : List Segment) (r : Range) (a : ℕ) (f : Form) (b : ℕ) : Type 0 where
@@ -42,6 +48,38 @@ GoesOn form.Return = ⊥
 abbrev pub StandsAt : List Segment → Range → ℕ → List Form → Exit → Type 0
 StandsAt m r a [] e = EndsAt m r a e
 StandsAt m r a (f ∷ fs) e = (b : ℕ) × IsAt m r a f b × GoesOn f × HasWords f × StandsAt m r b fs e
+
+-- ---- what the code begins with
+
+-- the bytes begin with an instruction of the form, of n bytes
+pub record BeginsWith (x : List ℕ) (f : Form) (n : ℕ) : Type 0 where
+  pub i : Inst
+  pub within : n ≤ length x
+  pub some : 0 < n
+  pub spelled : Spells (take n x) i
+  pub form : form_of i ≡ Some f
+
+-- the bytes begin with an instruction without a meaning
+pub record BeginsWithout (x : List ℕ) : Type 0 where
+  pub i : Inst
+  pub n : ℕ
+  pub within : n ≤ length x
+  pub spelled : Spells (take n x) i
+  pub none : form_of i ≡ None
+
+abbrev pub RefusedBy : Cause → List ℕ → Type 0
+RefusedBy cause.Instruction x = (NoneBegins x × (IsBegun x → ⊥)) ⊎ BeginsWithout x
+RefusedBy cause.Straddle x = NoneBegins x × IsBegun x
+RefusedBy cause.IndirectJump x = ⊥
+RefusedBy cause.CallInside x = ⊥
+RefusedBy cause.RangeEmpty x = ⊥
+RefusedBy cause.RangeTooLarge x = ⊥
+RefusedBy cause.RangeUnbacked x = ⊥
+
+abbrev pub StepIs : List ℕ → Step → Type 0
+StepIs x (step.Goes f n) = BeginsWith x f n × GoesOn f × HasWords f
+StepIs x step.Ends = (n : ℕ) × BeginsWith x form.Return n
+StepIs x (step.Refused why) = RefusedBy why x
 
 -- ---- its C
 

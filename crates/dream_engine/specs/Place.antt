@@ -22,14 +22,15 @@ place_of at why = record { at = at; cause = why }
 
 -- ---- the range as a whole
 
+-- an address whose byte isn't frozen, or else a later one
+abbrev pub unless_frozen : Option ℕ → ℕ → Option ℕ → Option ℕ
+unless_frozen None a later = Some a
+unless_frozen (Some b) a later = later
+
 -- the first of k addresses from a on whose byte isn't frozen
 abbrev pub first_unfrozen : List Segment → ℕ → ℕ → Option ℕ
 first_unfrozen m a zero = None
 first_unfrozen m a (suc k) = unless_frozen (frozen_byte m a) a (first_unfrozen m (a + 1) k)
-  where
-    unless_frozen : Option ℕ → ℕ → Option ℕ → Option ℕ
-    unless_frozen None a rest = Some a
-    unless_frozen (Some b) a rest = rest
 
 -- 0xffffffff, where the range goes past it
 abbrev pub or_last : Range → Option ℕ → Option ℕ
@@ -108,3 +109,8 @@ pub record HasNoPlace (m : List Segment) (r : Range) : Type 0 where
 abbrev pub HasNoText : List Segment → Range → FlowFault → Type 0
 HasNoText m r (fault.Outside p) = NamedPlace m r p
 HasNoText m r fault.Memory = Unit {0}
+
+-- the place of the range as a whole is the one that is refused
+abbrev pub NamesRange : Option Place → FlowFault → Type 0
+NamesRange named (fault.Outside p) = named ≡ Some p
+NamesRange named fault.Memory = Unit {0}

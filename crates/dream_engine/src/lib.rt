@@ -7,6 +7,7 @@
 mod decompile;
 mod line;
 mod place;
+mod range_code;
 mod text;
 
 pub use decompile::decompile_one;

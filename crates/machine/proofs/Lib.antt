@@ -1,3 +1,3 @@
 pub mod Beginnings
 pub mod Staying
-mod Straying
+pub mod Straying

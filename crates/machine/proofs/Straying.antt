@@ -205,3 +205,10 @@ straying_is_exact sc i m e =
         | inl b ↦ or_left _ (strays_in sc i m e.go) (broken sc.image sc.slot m.mem mem b)
         | inr s ↦ or_right (is_broken sc.image sc.slot m.mem mem) _ (if_strays sc i m e.go s)
       ]) )
+
+-- memory that isn't written is kept
+pub unbroken : (m : List Segment) (s : ℕ) (mem : Mem) → is_broken m s mem mem ≡ false
+unbroken m s mem = elim (cases_Bool (is_broken m s mem mem)) [
+  | inl e ↦ absurd (elim (breaks m s mem mem e) [ inl c ↦ c.2 refl | inr c ↦ c.2 refl ])
+  | inr e ↦ e
+]

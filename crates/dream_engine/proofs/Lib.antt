@@ -1,0 +1,7 @@
+mod Frozen
+mod Beginning
+pub mod Path
+pub mod LineSteps
+mod LineRuns
+mod LineOfC
+mod LineAgrees
