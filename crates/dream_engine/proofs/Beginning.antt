@@ -1,19 +1,13 @@
 -- What the bytes of a range begin with: one instruction at most, and of some bytes.
-use Rattle.std.proofs.Common.{◌≡◌, ℕ, zero, suc, ◌+◌, ◌-◌, ◌<◌, ◌≤◌, ◌⊎◌, inl, inr, Bool, true, false, List, [], ◌∷◌, ◌++◌, length, take, drop, Option, Some, None, refl, sym, ap, ◌∙◌, subst, arith, rules, length-append, take-add, length-take}
-use Rattle.std.proofs.lemmas.List.{take-append-drop}
+use Rattle.std.proofs.Common.{◌≡◌, ℕ, zero, suc, ◌+◌, ◌-◌, ◌<◌, ◌≤◌, inl, inr, Bool, true, false, List, [], ◌++◌, length, take, drop, Option, Some, None, refl, sym, ap, ◌∙◌, subst, arith, length-append, take-add, length-take}
 use Rattle.std.proofs.lemmas.Bool.{cases_lt}
 use Rattle.elf_image.specs.declared.image.Segment.{Segment}
 use Rattle.elf_image.specs.declared.range.Range.{Range}
 use Rattle.elf_image.specs.Range.{bytes_to_end}
 use Rattle.x86_inst.specs.declared.Inst.{Inst}
 use Rattle.x86_inst.specs.Spelling.{Spells, opcode, opcode_bytes}
-use Rattle.x86_decode.specs.Decodes.{NoneBegins, IsBegun}
 use Rattle.x86_decode.proofs.Decoding.{one_reading}
 use Rattle.machine.specs.Code.{BeginsAt, Decodes}
-use Rattle.machine.specs.declared.form.Form.{Form}
-use Rattle.machine.specs.declared.form.Form.TheVariants as form
-use Rattle.machine.specs.Meaning.{form_of}
-use Rattle.dream_engine.specs.Line.{GoesOn, BeginsWith}
 
 some_opcode : (e : Bool) (op : ℕ) → 0 < length (opcode_bytes e op)
 some_opcode true op = omega arith

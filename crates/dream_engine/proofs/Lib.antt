@@ -5,3 +5,5 @@ pub mod LineSteps
 mod LineRuns
 mod LineOfC
 mod LineAgrees
+mod Texts
+mod WellFormed

@@ -1,5 +1,5 @@
 -- A straight line of code and its C agree.
-use Rattle.std.proofs.Common.{◌≡◌, ℕ, zero, suc, ◌+◌, ◌⊎◌, inl, inr, Bool, true, false, not, ◌==◌, List, [], ◌∷◌, ◌++◌, length, Option, Some, None, refl, sym, ap, ◌∙◌, subst, arith, rules}
+use Rattle.std.proofs.Common.{◌≡◌, ℕ, suc, ◌⊎◌, inl, inr, Bool, true, false, not, ◌==◌, List, [], ◌∷◌, ◌++◌, length, refl, sym, ap, ◌∙◌, subst}
 use Rattle.elf_image.specs.declared.image.Segment.{Segment}
 use Rattle.elf_image.specs.declared.range.Range.{Range}
 use Rattle.dream_words.specs.declared.machine.Name.TheVariants.{Reg}
@@ -11,12 +11,11 @@ use Rattle.dream_words.specs.declared.outcome.Outcome.TheVariants as outcome
 use Rattle.dream_words.specs.Same.{Same, IsEnded, IsGoing, calls_of, AreFront}
 use Rattle.dream_words.specs.Agreement.{Agreeing}
 use Rattle.dream_words.proofs.Outcomes.{Same_refl, SameCall_refl}
-use Rattle.x86_inst.specs.declared.Inst.{Inst}
 use Rattle.machine.specs.declared.form.Form.{Form}
 use Rattle.machine.specs.Meaning.{LeaveTo}
-use Rattle.machine.specs.Steps.{Onward, At, Finished, Strays, Blank, judged, steps}
+use Rattle.machine.specs.Steps.{Finished, judged}
 use Rattle.machine.specs.Code.{Decodes, is_broken}
-use Rattle.machine.specs.Run.{Scene, State, Ending, Returned, step_at, leads, answer_breaks, scene_of, machine_run, IsStart, outcome_of}
+use Rattle.machine.specs.Run.{Scene, Ending, leads, answer_breaks, scene_of, machine_run, outcome_of}
 use Rattle.run_parts.specs.World.{World, regs_in, start_world}
 use Rattle.run_parts.specs.World as world
 use Rattle.c_syntax.specs.Run.{c_run}
@@ -24,8 +23,8 @@ use Rattle.dream_engine.specs.declared.line.Exit.{Exit}
 use Rattle.dream_engine.specs.declared.line.Exit.TheVariants as exit
 use Rattle.dream_engine.specs.declared.line.Line.{Line}
 use Rattle.dream_engine.specs.Agreement.{Agrees}
-use Rattle.dream_engine.specs.Line.{StandsAt, GoesOn, function_of}
-use Rattle.dream_engine.proofs.LineRuns.{Rest, state_of, all_assigned, all_kept, last_step, IsOnLine, line_steps, line_ends}
+use Rattle.dream_engine.specs.Line.{StandsAt, function_of}
+use Rattle.dream_engine.proofs.LineRuns.{Rest, state_of, all_assigned, all_kept, last_step, line_steps, line_ends}
 use Rattle.dream_engine.proofs.LineOfC.{left_by, text_end, text_does, text_ended, AllGoOn}
 
 -- ---- agreement with a text that ends in one way
@@ -107,7 +106,7 @@ last_is sc d (exit.Leave to) k w = at w.left
   where
     at : (left : List Answer) → (outcome_of (judged (answer_breaks sc left w.mem) (leads (LeaveTo to) to to (record (state_of k w) { left = left }))) ≡ outcome.Strayed)
         ⊎ (outcome_of (judged (answer_breaks sc left w.mem) (leads (LeaveTo to) to to (record (state_of k w) { left = left })))
-          ≡ left_by left (w.calls ++ record { target = to; regs = regs_in w.names; mem = w.mem } ∷ []))
+        ≡ left_by left (w.calls ++ record { target = to; regs = regs_in w.names; mem = w.mem } ∷ []))
     at [] = inr refl
     at (a ∷ rest) = judged_end (is_broken sc.image sc.slot w.mem a.mem) _
 
@@ -130,12 +129,12 @@ line_agrees m r l h = record {
       let w = start_world start answers in
       let end = outcome_of (last_step sc d l.exit (all_kept k w l.forms) (all_assigned w l.forms)) in
       one_end (machine_run m r decoded start answers) (c_run (function_of r.entry l) start answers) (suc (length l.forms)) end (text_end l.exit (all_assigned w l.forms))
-        (λ n. elim (line_steps sc d l.forms r.entry l.exit k w h n) [
-          | inl o ↦ inl (ap outcome_of o.is ∙ ap (λ calls. outcome.Going calls) o.calls)
-          | inr e ↦ inr (ap outcome_of e)
-        ])
-        (ap outcome_of (line_ends sc d l.forms r.entry l.exit k w h))
-        (last_is sc d l.exit (all_kept k w l.forms) (all_assigned w l.forms))
-        (λ t. ap world.outcome_of (text_does l.forms l.exit t w (all_go_on m r l.forms r.entry l.exit h)))
-        (text_ended l.exit (all_assigned w l.forms));
+      (λ n. elim (line_steps sc d l.forms r.entry l.exit k w h n) [
+        | inl o ↦ inl (ap outcome_of o.is ∙ ap (λ calls. outcome.Going calls) o.calls)
+        | inr e ↦ inr (ap outcome_of e)
+      ])
+      (ap outcome_of (line_ends sc d l.forms r.entry l.exit k w h))
+      (last_is sc d l.exit (all_kept k w l.forms) (all_assigned w l.forms))
+      (λ t. ap world.outcome_of (text_does l.forms l.exit t w (all_go_on m r l.forms r.entry l.exit h)))
+      (text_ended l.exit (all_assigned w l.forms));
 }

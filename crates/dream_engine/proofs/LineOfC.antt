@@ -1,6 +1,5 @@
 -- The C of a straight line.
-use Rattle.std.proofs.Common.{◌≡◌, ℕ, zero, suc, ◌+◌, ◌<◌, Bool, true, false, List, [], ◌∷◌, ◌++◌, map, Option, Some, None, refl, sym, ap, ◌∙◌, subst, arith, rules}
-use Rattle.dream_words.specs.declared.machine.Name.{Name}
+use Rattle.std.proofs.Common.{◌≡◌, ℕ, ◌+◌, List, [], ◌∷◌, ◌++◌, Some, refl, ap, ◌∙◌}
 use Rattle.dream_words.specs.declared.machine.Name.TheVariants.{Reg}
 use Rattle.dream_words.specs.declared.outcome.Answer.{Answer}
 use Rattle.dream_words.specs.declared.outcome.Call.{Call}
@@ -10,16 +9,16 @@ use Rattle.dream_words.specs.Same.{IsEnded}
 use Rattle.dream_words.specs.Words.{low_part}
 use Rattle.machine.specs.declared.form.Form.{Form}
 use Rattle.machine.specs.declared.form.Form.TheVariants as form
-use Rattle.run_parts.specs.Parts.{Run, Ends, Past, Over, on, after, in_turn}
-use Rattle.run_parts.specs.Steps.{Next, Halt, having, done, simply}
-use Rattle.run_parts.specs.World.{Names, World, regs_in, with_name, answered, returned, outcome_of}
+use Rattle.run_parts.specs.Parts.{Ends, Over, on, after}
+use Rattle.run_parts.specs.Steps.{having, done}
+use Rattle.run_parts.specs.World.{Names, World, regs_in, answered, returned}
 use Rattle.run_parts.specs.Effects.{set_word, setting, calling, answered_by}
 use Rattle.c_syntax.specs.declared.syntax.CBin.TheVariants.{Add}
-use Rattle.c_syntax.specs.declared.syntax.CExpr.{CExpr, CExpr-F, roll-CExpr}
+use Rattle.c_syntax.specs.declared.syntax.CExpr.{CExpr, CExpr-F}
 use Rattle.c_syntax.specs.declared.syntax.CStmt.{CStmt, CStmt-F, roll-CStmt}
 use Rattle.c_syntax.specs.Value.{both, word_of}
 use Rattle.c_syntax.specs.Words.{bin_of}
-use Rattle.c_syntax.specs.Run.{run, run_all, word_in}
+use Rattle.c_syntax.specs.Run.{run_all, word_in}
 use Rattle.c_syntax.proofs.Layers.{word_of_layer, run_layer}
 use Rattle.dream_engine.specs.declared.line.Exit.{Exit}
 use Rattle.dream_engine.specs.declared.line.Exit.TheVariants as exit

@@ -1,11 +1,7 @@
 -- The machine on a straight line.
-use Rattle.std.proofs.Common.{◌≡◌, ℕ, zero, suc, ◌+◌, ◌-◌, ◌%◌, ◌^◌, ◌<◌, ◌≤◌, ◌⊎◌, inl, inr, Bool, true, false, not, ◌||◌, ◌==◌, nat_eq, nat_lt, if◌then◌else◌, List, [], ◌∷◌, ◌++◌, length, Option, Some, None, refl, sym, ap, ◌∙◌, subst, arith, rules}
-use Rattle.elf_image.specs.declared.image.Segment.{Segment}
-use Rattle.elf_image.specs.declared.range.Range.{Range}
-use Rattle.elf_image.specs.Range.{is_inside}
+use Rattle.std.proofs.Common.{◌≡◌, ℕ, zero, suc, ◌+◌, ◌%◌, ◌^◌, ◌<◌, ◌⊎◌, inl, inr, Bool, true, false, not, ◌||◌, ◌==◌, List, [], ◌∷◌, length, Some, refl, sym, ap, ◌∙◌, arith}
 use Rattle.dream_words.specs.declared.machine.Regs.{Regs}
 use Rattle.dream_words.specs.declared.machine.Flags.{Flags}
-use Rattle.dream_words.specs.declared.machine.Name.{Name}
 use Rattle.dream_words.specs.declared.outcome.Answer.{Answer}
 use Rattle.dream_words.specs.declared.machine.Name.TheVariants.{Reg}
 use Rattle.dream_words.specs.Words.{low_part}
@@ -13,10 +9,10 @@ use Rattle.dream_words.specs.Registers.{reg_of, with_reg}
 use Rattle.x86_inst.specs.declared.Inst.{Inst}
 use Rattle.machine.specs.declared.form.Form.{Form}
 use Rattle.machine.specs.declared.form.Form.TheVariants as form
-use Rattle.machine.specs.Meaning.{effect_of, form_of, sum_flags, changes, LeaveTo, HasWords}
-use Rattle.machine.specs.Steps.{Onward, At, Finished, Strays, Blank, go_on, judged, steps}
+use Rattle.machine.specs.Meaning.{sum_flags, changes, LeaveTo, HasWords}
+use Rattle.machine.specs.Steps.{Onward, At, Finished, go_on, judged, steps}
 use Rattle.machine.specs.Code.{Decodes, is_broken}
-use Rattle.machine.specs.Run.{Scene, State, Ending, Returned, act, acts, step_at, leads, answer_breaks, strays, stored, step_does}
+use Rattle.machine.specs.Run.{Scene, State, Ending, Returned, acts, step_at, leads, answer_breaks, strays}
 use Rattle.machine.proofs.Straying.{unbroken}
 use Rattle.run_parts.specs.World.{Names, World, with_name, regs_in}
 use Rattle.run_parts.specs.Effects.{set_word}
@@ -113,10 +109,10 @@ module _ (sc : Scene) (d : Decodes sc.image sc.range sc.decoded) where
       ∙ goes_to at.i b k w _ _ k.flags (ap (with_reg (regs_in w.names) to) (get_reg w.names from h.1) ∙ set_reg w.names to (w.names (Reg from)) h.0)
   step_form a b (form.Add to from) k w at g h =
       let sum : low_part 32 (reg_of (regs_in w.names) to + reg_of (regs_in w.names) from) ≡ low_part 32 (w.names (Reg to) + w.names (Reg from))
-        = ap (λ x. low_part 32 (x + reg_of (regs_in w.names) from)) (get_reg w.names to h.0) ∙ ap (λ y. low_part 32 (w.names (Reg to) + y)) (get_reg w.names from h.1) in
+      = ap (λ x. low_part 32 (x + reg_of (regs_in w.names) from)) (get_reg w.names to h.0) ∙ ap (λ y. low_part 32 (w.names (Reg to) + y)) (get_reg w.names from h.1) in
       acts_at a b (form.Add to from) (state_of k w) at
       ∙ goes_to at.i b k w _ _ (sum_flags (reg_of (regs_in w.names) to) (reg_of (regs_in w.names) from))
-        (ap (with_reg (regs_in w.names) to) sum ∙ set_reg w.names to (low_part 32 (w.names (Reg to) + w.names (Reg from))) h.0)
+      (ap (with_reg (regs_in w.names) to) sum ∙ set_reg w.names to (low_part 32 (w.names (Reg to) + w.names (Reg from))) h.0)
   step_form a b form.Return k w at g h = absurd g
 
   -- ---- the line's end

@@ -1,6 +1,6 @@
 -- The steps of reading a straight line.
-use Rattle.std.proofs.Common.{◌≡◌, ℕ, zero, suc, ◌+◌, ◌-◌, ◌%◌, ◌^◌, ◌<◌, ◌≤◌, ◌⊎◌, inl, inr, Bool, true, false, nat_le, nat_lt, List, [], ◌∷◌, ◌++◌, length, take, drop, Option, Some, None, refl, sym, ap, ◌∙◌, subst, arith, rules, append-nil}
-use Rattle.std.proofs.lemmas.Bool.{cases_lt, le-leb, lt-ltb, le-ltb, lt-leb, and_from, and_left, and_right}
+use Rattle.std.proofs.Common.{◌≡◌, ℕ, ◌+◌, ◌-◌, ◌%◌, ◌^◌, ◌<◌, ◌≤◌, inl, inr, true, false, nat_le, nat_lt, List, [], ◌∷◌, ◌++◌, length, take, drop, None, refl, sym, ap, ◌∙◌, subst, arith, append-nil}
+use Rattle.std.proofs.lemmas.Bool.{cases_lt, le-ltb, lt-leb, and_left, and_right}
 use Rattle.std.proofs.lemmas.List.{take_rest, length-drop}
 use Rattle.x86_inst.specs.Spelling.{Spells}
 use Rattle.elf_image.specs.declared.image.Segment.{Segment}
@@ -10,7 +10,6 @@ use Rattle.machine.specs.declared.form.Form.{Form}
 use Rattle.machine.specs.declared.form.Form.TheVariants as form
 use Rattle.machine.specs.Meaning.{HasWords}
 use Rattle.dream_engine.specs.declared.place.Cause.{Cause}
-use Rattle.dream_engine.specs.declared.line.Exit.{Exit}
 use Rattle.dream_engine.specs.declared.line.Exit.TheVariants as exit
 use Rattle.dream_engine.specs.Place.{HasNoPlace, NamedPlace, range_place, place_of}
 use Rattle.dream_engine.specs.Line.{IsAt, GoesOn, StandsAt, BeginsWith, RefusedBy}
@@ -60,18 +59,20 @@ pub goes : (m : List Segment) (r : Range) (code x : List ℕ) (forms : List Form
     → x ≡ take (length code - at) (drop at code) → IsSoFar m r forms ((r.entry + at) % 2 ^ 32) → BeginsWith x f n × GoesOn f × HasWords f
     → (at + n ≤ length code) × IsSoFar m r (forms ++ f ∷ []) ((r.entry + (at + n)) % 2 ^ 32)
 goes m r code x forms at n f c lt e s (b, g, w) =
-    let long : length x ≡ length code - at = ap length (e ∙ take_rest code at) ∙ length-drop at code in
-    ( omega (arith, b.within, long, lt)
-    , more_so_far m r forms ((r.entry + at) % 2 ^ 32) ((r.entry + (at + n)) % 2 ^ 32) f s (is_at m r code x at n f c lt e b) g w )
+    let long : length x ≡ length code - at = ap length (e ∙ take_rest code at) ∙ length-drop at code in (
+      omega (arith, b.within, long, lt),
+      more_so_far m r forms ((r.entry + at) % 2 ^ 32) ((r.entry + (at + n)) % 2 ^ 32) f s (is_at m r code x at n f c lt e b) g w,
+    )
 
 -- a `ret`
 pub ends : (m : List Segment) (r : Range) (code x : List ℕ) (forms : List Form) (at : ℕ) → IsCode m r code → at < length code
     → x ≡ take (length code - at) (drop at code) → IsSoFar m r forms ((r.entry + at) % 2 ^ 32) → (n : ℕ) × BeginsWith x form.Return n
     → StandsAt m r r.entry forms exit.Return × HasNoPlace m r
 ends m r code x forms at c lt e s (n, b) =
-    let at' = is_at m r code x at n form.Return c lt e b in
-    ( subst (λ fs. StandsAt m r r.entry fs exit.Return) (append-nil forms) (s.stands [] exit.Return ((r.entry + (at + n)) % 2 ^ 32, at'))
-    , no_place_at_return m r forms ((r.entry + at) % 2 ^ 32) ((r.entry + (at + n)) % 2 ^ 32) c.no_place s at' )
+    let at' = is_at m r code x at n form.Return c lt e b in (
+      subst (λ fs. StandsAt m r r.entry fs exit.Return) (append-nil forms) (s.stands [] exit.Return ((r.entry + (at + n)) % 2 ^ 32, at')),
+      no_place_at_return m r forms ((r.entry + at) % 2 ^ 32) ((r.entry + (at + n)) % 2 ^ 32) c.no_place s at',
+    )
 
 -- a cause
 pub refuses : (m : List Segment) (r : Range) (code x : List ℕ) (forms : List Form) (at : ℕ) (why : Cause) → IsCode m r code → at < length code
@@ -96,6 +97,7 @@ end_outside m r code at c e = elim (cases_lt (r.entry + at) (2 ^ 32)) [
 pub leaves : (m : List Segment) (r : Range) (code : List ℕ) (forms : List Form) (at : ℕ) → IsCode m r code → at ≡ length code
     → IsSoFar m r forms ((r.entry + at) % 2 ^ 32) → StandsAt m r r.entry forms (exit.Leave ((r.entry + at) % 2 ^ 32)) × HasNoPlace m r
 leaves m r code forms at c e s =
-    let out = end_outside m r code at c e in
-    ( subst (λ fs. StandsAt m r r.entry fs (exit.Leave ((r.entry + at) % 2 ^ 32))) (append-nil forms) (s.stands [] (exit.Leave ((r.entry + at) % 2 ^ 32)) (out, refl))
-    , no_place_outside m r forms ((r.entry + at) % 2 ^ 32) c.no_place s out )
+    let out = end_outside m r code at c e in (
+      subst (λ fs. StandsAt m r r.entry fs (exit.Leave ((r.entry + at) % 2 ^ 32))) (append-nil forms) (s.stands [] (exit.Leave ((r.entry + at) % 2 ^ 32)) (out, refl)),
+      no_place_outside m r forms ((r.entry + at) % 2 ^ 32) c.no_place s out,
+    )

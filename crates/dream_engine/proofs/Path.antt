@@ -1,26 +1,22 @@
 -- The addresses that a straight line reaches, and what stands there.
-use Rattle.std.proofs.Common.{◌≡◌, ℕ, zero, suc, ◌+◌, ◌-◌, ◌%◌, ◌^◌, ◌<◌, ◌≤◌, ◌⊎◌, inl, inr, min, Bool, true, false, nat_le, nat_lt, ◌&&◌, if◌then◌else◌, List, [], ◌∷◌, ◌++◌, length, take, drop, Option, Some, None, refl, sym, ap, ◌∙◌, subst, arith, rules, add-zero, append_assoc, append-nil}
+use Rattle.std.proofs.Common.{◌≡◌, ℕ, zero, suc, ◌+◌, ◌-◌, ◌%◌, ◌^◌, ◌<◌, ◌≤◌, ◌⊎◌, inl, inr, min, true, false, if◌then◌else◌, List, [], ◌∷◌, ◌++◌, length, drop, Option, Some, None, refl, sym, ap, ◌∙◌, subst, arith, add-zero, append_assoc}
 use Rattle.std.specs.Prelude.{Contains, slice_index_or}
-use Rattle.std.proofs.lemmas.Bool.{cases_lt, le-leb, lt-ltb, le-ltb, and_from, and_left, and_right, leb-true, ltb-true, and_parts, both_ways}
+use Rattle.std.proofs.lemmas.Bool.{le-leb, lt-ltb, and_from, both_ways}
 use Rattle.elf_image.specs.declared.image.Segment.{Segment}
 use Rattle.elf_image.specs.declared.range.Range.{Range}
 use Rattle.elf_image.specs.Image.{frozen_byte}
 use Rattle.elf_image.specs.Range.{is_inside, before_some, frozen_from, bytes_to_end}
 use Rattle.x86_inst.specs.declared.Inst.{Inst}
-use Rattle.x86_inst.specs.Spelling.{Spells}
-use Rattle.x86_decode.specs.Decodes.{NoneBegins, IsBegun}
 use Rattle.machine.specs.Code.{BeginsAt}
 use Rattle.machine.specs.declared.form.Form.{Form}
 use Rattle.machine.specs.declared.form.Form.TheVariants as form
 use Rattle.machine.specs.Meaning.{form_of, HasWords}
-use Rattle.dream_engine.specs.declared.place.Place.{Place}
 use Rattle.dream_engine.specs.declared.place.Cause.{Cause}
 use Rattle.dream_engine.specs.declared.place.Cause.TheVariants as cause
 use Rattle.dream_engine.specs.declared.line.Exit.{Exit}
-use Rattle.dream_engine.specs.declared.line.Exit.TheVariants as exit
 use Rattle.dream_engine.specs.Place as place
 use Rattle.dream_engine.specs.Place.{Reaches, HasCause, HasNoMeaning, HasNoPlace, NamedPlace, IsLeastPlace, range_place, successors, place_of}
-use Rattle.dream_engine.specs.Line.{IsAt, EndsAt, GoesOn, StandsAt, BeginsWith, BeginsWithout, RefusedBy}
+use Rattle.dream_engine.specs.Line.{IsAt, GoesOn, StandsAt, BeginsWithout, RefusedBy}
 use Rattle.dream_engine.proofs.Beginning.{one_beginning}
 use Rattle.dream_engine.proofs.Frozen.{entry_inside}
 
@@ -51,9 +47,9 @@ pub code_at : (m : List Segment) (r : Range) (at : ℕ) → at < r.size → r.en
 code_at m r at h fits whole =
     let sum : at + (r.size - at) ≡ r.size = omega (arith, h) in
     let first : bytes_to_end m r r.entry ≡ frozen_from m r.entry (at + (r.size - at)) =
-      let e : (if is_inside r r.entry then min (r.entry + r.size) (2 ^ 32) - r.entry else 0) ≡ r.size =
-        (let f : min (r.entry + r.size) (2 ^ 32) - r.entry ≡ r.size = grind (arith, fits) in rw (entry_inside r (omega (arith, h))) f) in
-      ap (frozen_from m r.entry) (e ∙ sym sum) in
+    let e : (if is_inside r r.entry then min (r.entry + r.size) (2 ^ 32) - r.entry else 0) ≡ r.size =
+    (let f : min (r.entry + r.size) (2 ^ 32) - r.entry ≡ r.size = grind (arith, fits) in rw (entry_inside r (omega (arith, h))) f) in
+    ap (frozen_from m r.entry) (e ∙ sym sum) in
     let long : at ≤ length (frozen_from m r.entry (at + (r.size - at))) = omega (arith, ap length first, whole, h) in
     ap (frozen_from m (r.entry + at)) (room_at r at h fits) ∙ sym (drop_frozen m at r.entry (r.size - at) long) ∙ ap (drop at) (sym first)
 

@@ -1,5 +1,5 @@
 -- A straight line of forms, as code and as C. Only of this stage.
-use Rattle.std.specs.Prelude.{◌≡◌, ◌⊎◌, ℕ, ◌+◌, ◌%◌, ◌^◌, ◌<◌, ◌≤◌, true, false, List, [], ◌∷◌, length, take, Some, None}
+use Rattle.std.specs.Prelude.{◌≡◌, ◌⊎◌, ℕ, ◌+◌, ◌%◌, ◌^◌, ◌<◌, ◌≤◌, true, false, List, [], ◌∷◌, ◌++◌, codes, length, take, Some, None}
 use Rattle.elf_image.specs.declared.image.Segment.{Segment}
 use Rattle.elf_image.specs.declared.range.Range.{Range}
 use Rattle.elf_image.specs.Range.{is_inside}
@@ -11,6 +11,7 @@ use Rattle.machine.specs.declared.form.Form.{Form}
 use Rattle.machine.specs.declared.form.Form.TheVariants as form
 use Rattle.machine.specs.Meaning.{form_of, HasWords}
 use Rattle.machine.specs.Code.{BeginsAt}
+use Rattle.c_syntax.specs.Spelling.{last_digits, name_text, num_text}
 use Rattle.c_syntax.specs.declared.syntax.CBin.TheVariants.{Add}
 use Rattle.c_syntax.specs.declared.syntax.CExpr.{CExpr, CExpr-F, roll-CExpr}
 use Rattle.c_syntax.specs.declared.syntax.CStmt.{CStmt, CStmt-F, roll-CStmt}
@@ -116,3 +117,20 @@ body_of (f ∷ fs) e = stmt_of f ∷ body_of fs e
 
 abbrev pub function_of : ℕ → Line → CFun
 function_of entry l = record { address = entry; temps = 0; bools = 0; selectors = 0; body = body_of l.forms l.exit }
+
+-- the text up to the first statement
+abbrev pub head_of : ℕ → List ℕ
+head_of entry = codes "#include \"dream386.h\"\n\nvoid f_" ++ last_digits 8 entry ++ codes "(void)\n{\n"
+
+-- the line of a form, at the first level
+abbrev pub form_line : Form → List ℕ
+form_line (form.SetTo to value) = codes "  " ++ (name_text (Reg to) ++ codes " = " ++ num_text value ++ codes ";") ++ codes "\n"
+form_line (form.Move to from) = codes "  " ++ (name_text (Reg to) ++ codes " = " ++ name_text (Reg from) ++ codes ";") ++ codes "\n"
+form_line (form.Add to from) =
+    codes "  " ++ (name_text (Reg to) ++ codes " = " ++ (codes "(" ++ (name_text (Reg to) ++ codes " " ++ codes "+" ++ codes " " ++ name_text (Reg from)) ++ codes ")") ++ codes ";") ++ codes "\n"
+form_line form.Return = codes "  return;\n"
+
+-- the lines of the end
+abbrev pub end_lines : Exit → List ℕ
+end_lines exit.Return = codes "  esp = (esp + 0x4u);\n  return;\n"
+end_lines (exit.Leave to) = (codes "  " ++ (codes "ext(" ++ num_text to ++ codes ");") ++ codes "\n") ++ codes "  return;\n"

@@ -4,7 +4,10 @@ ghost use Rattle.std.specs.Prelude.{IfOk, IfErr};
 ghost use Rattle.dream_engine.specs.Agreement.{IsDecompiled};
 ghost use Rattle.dream_engine.specs.Place.{HasNoText};
 
+use crate::line::straight_line;
 use crate::place::FlowFault;
+use crate::text::text_of;
+use c_syntax::canonical_stands;
 use elf_image::{Image, Range};
 use std::alloc::Global;
 
@@ -13,5 +16,10 @@ pub fn decompile_one(alloc: Global, m: &Image, r: &Range) -> Result<Vec<u8>, Flo
     ensures ok { IfOk result (λ text. IsDecompiled m.now r.now text.items) }
     ensures err { IfErr result (HasNoText m.now r.now) }
 {
-    Err(FlowFault::Memory)
+    let line = straight_line(alloc, m, r)?;
+    canonical_stands();
+    match text_of(alloc, r.entry, &line) {
+        Ok(text) => Ok(text),
+        Err(_) => Err(FlowFault::Memory),
+    }
 }

@@ -1,6 +1,6 @@
 //! The straight line that a range is. Only of this stage.
 
-ghost use Rattle.std.specs.Prelude.{◌≡◌, IfOk, OnOk, IfErr, MatchBool};
+ghost use Rattle.std.specs.Prelude.{◌≡◌, ◌<◌, ◌^◌, IfOk, OnOk, IfErr, MatchBool};
 ghost use Rattle.dream_engine.specs.Place.{HasNoPlace, HasNoText};
 ghost use Rattle.dream_engine.specs.Line.{StandsAt, StepIs, GoesOn};
 
@@ -75,6 +75,7 @@ fn step_at(code: &[u8]) -> Step
 pub fn straight_line(alloc: Global, m: &Image, r: &Range) -> Result<Line, FlowFault>
     ensures ok { IfOk result (λ l. StandsAt m.now r.now r.now.entry l.forms l.exit) }
     ensures no_place { OnOk result (HasNoPlace m.now r.now) }
+    ensures word { OnOk result (r.now.entry < 2 ^ 32) }
     ensures err { IfErr result (HasNoText m.now r.now) }
 {
     let code = range_code(alloc, m, r)?;

@@ -1,5 +1,5 @@
 -- Looking a path up in a list of files.
-use Rattle.std.proofs.Common.{◌≡◌, ℕ, zero, suc, ◌<◌, List, [], ◌∷◌, length, get_or, drop, Some, true, refl, sym, ap, ◌∙◌, rules, arith, cond, string_bytes}
+use Rattle.std.proofs.Common.{◌≡◌, ℕ, zero, suc, ◌<◌, List, [], ◌∷◌, length, get_or, drop, Some, true, refl, sym, ◌∙◌, arith, string_bytes}
 use Rattle.std.specs.Str.{bytes_eq}
 use Rattle.dream_outside.specs.declared.mem_files.MemFile.{MemFile}
 use Rattle.dream_outside.specs.MemFiles.{bytes_at, opened}

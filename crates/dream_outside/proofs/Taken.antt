@@ -1,6 +1,6 @@
 -- What is left of a file after a front of it was taken.
-use Rattle.std.proofs.Common.{◌≡◌, ◌<◌, ◌≤◌, ◌+◌, ℕ, zero, suc, List, [], ◌∷◌, ◌++◌, length, take, drop, min, refl, sym, ap, ◌∙◌, arith, rules, add-zero, drop-drop}
-use Rattle.std.proofs.lemmas.List.{take-append-drop, length-drop}
+use Rattle.std.proofs.Common.{◌≡◌, ◌<◌, ◌+◌, ℕ, List, [], ◌∷◌, ◌++◌, length, take, drop, min, refl, sym, ap, ◌∙◌, arith, add-zero, drop-drop}
+use Rattle.std.proofs.lemmas.List.{take-append-drop}
 
 -- the front that was taken, and then what is left
 pub front_taken : (xs front : List ℕ) (at n : ℕ) → front ≡ take n (drop at xs) → drop at xs ≡ front ++ drop (at + n) xs

@@ -1,5 +1,5 @@
 -- A stream kept in memory: what it took, and which of its calls fail.
-use Rattle.std.specs.Prelude.{◌≡◌, ◌⊎◌, ◌+◌, ◌-◌, ◌^◌, ◌<◌, ℕ, min, List, length, Contains}
+use Rattle.std.specs.Prelude.{◌≡◌, ◌⊎◌, ◌-◌, ◌<◌, ℕ, min, List, length, Contains}
 use Rattle.dream_outside.specs.declared.mem_sink.MemSink.{MemSink}
 use Rattle.dream_outside.specs.MemFiles.{raised}
 

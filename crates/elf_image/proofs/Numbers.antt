@@ -1,5 +1,5 @@
 -- Numbers at places of a file, as the bytes from that place on give them.
-use Rattle.std.proofs.Common.{◌≡◌, ◌+◌, ◌-◌, ◌*◌, ℕ, zero, suc, List, length, take, drop, get_or, refl, sym, ap, ◌∙◌, arith, rules, add-zero}
+use Rattle.std.proofs.Common.{◌≡◌, ◌+◌, ◌-◌, ℕ, zero, suc, List, length, take, drop, refl, ap, ◌∙◌, arith, add-zero}
 use Rattle.std.proofs.lemmas.List.{take_rest, get_or-drop}
 use Rattle.byteorder.specs.Endian.{little_from, little_number}
 use Rattle.elf_image.specs.Header.{number_at}

@@ -1,6 +1,6 @@
 -- What is accepted in a file: eleven kinds of fault, of which the first counts. A kind that several headers break is
 -- reported at the first of them.
-use Rattle.std.specs.Prelude.{ℕ, zero, suc, ◌+◌, ◌*◌, ◌^◌, Bool, true, false, not, ◌&&◌, ◌||◌, ◌==◌, nat_lt, min, max, List, [], ◌∷◌, length, slice_index, Option, Some, None, is_some, if◌then◌else◌}
+use Rattle.std.specs.Prelude.{ℕ, ◌+◌, ◌*◌, ◌^◌, Bool, not, ◌&&◌, ◌||◌, ◌==◌, nat_lt, min, max, List, [], ◌∷◌, length, slice_index, Option, Some, None, is_some, if◌then◌else◌}
 use Rattle.elf_image.specs.declared.image.ElfFault.{ElfFault}
 use Rattle.elf_image.specs.First.{first_below}
 use Rattle.elf_image.specs.Header.{file_type, machine, table_offset, entry_size, entry_count, header_place, is_load, offset_of, address_of, file_size_of, size_of}

@@ -1,5 +1,5 @@
 -- At every address the bytes begin with an instruction, or with none.
-use Rattle.std.proofs.Common.{◌≡◌, ℕ, zero, suc, ◌+◌, ◌-◌, ◌<◌, ◌≤◌, ◌⊎◌, inl, inr, Bool, true, false, cond, nat_lt, List, [], ◌∷◌, length, take, Option, Some, None, Result, Ok, Err, refl, sym, ap, ◌∙◌, subst, arith, rules}
+use Rattle.std.proofs.Common.{◌≡◌, ℕ, zero, suc, ◌-◌, ◌<◌, ◌≤◌, ◌⊎◌, inl, inr, Bool, true, false, cond, nat_lt, List, [], ◌∷◌, length, take, Option, Some, None, Result, Ok, Err, refl, ap, subst, arith, rules}
 use Rattle.std.proofs.lemmas.Bool.{cases_lt}
 use Rattle.elf_image.specs.declared.image.Segment.{Segment}
 use Rattle.elf_image.specs.declared.range.Range.{Range}
@@ -10,7 +10,7 @@ use Rattle.x86_decode.specs.declared.fields.Stop.{Stop}
 use Rattle.x86_decode.specs.Reading.{read_at}
 use Rattle.x86_decode.specs.Decodes.{NoneBegins}
 use Rattle.x86_decode.proofs.Decoding.{front, none_begins}
-use Rattle.machine.specs.Code.{BeginsAt, Decodes}
+use Rattle.machine.specs.Code.{Decodes}
 
 -- the numbers at the front of a list that are bytes
 byte_front : List ℕ → List ℕ

@@ -1,12 +1,6 @@
 -- What is over stays over.
-use Rattle.std.proofs.Common.{◌≡◌, ℕ, zero, suc, ◌+◌, ◌⊎◌, inl, inr, List, Option, refl, sym, ap, ◌∙◌, arith}
-use Rattle.elf_image.specs.declared.image.Segment.{Segment}
-use Rattle.elf_image.specs.declared.range.Range.{Range}
-use Rattle.dream_words.specs.declared.outcome.Start.{Start}
-use Rattle.dream_words.specs.declared.outcome.Answer.{Answer}
-use Rattle.dream_words.specs.declared.outcome.Outcome.{Outcome}
+use Rattle.std.proofs.Common.{◌≡◌, ℕ, zero, suc, ◌+◌, ◌⊎◌, inl, inr, refl, sym, ap, ◌∙◌, arith}
 use Rattle.dream_words.specs.Same.{IsGoing}
-use Rattle.x86_inst.specs.declared.Inst.{Inst}
 use Rattle.machine.specs.Steps.{Onward, At, Finished, Strays, Blank, go_on, steps}
 use Rattle.machine.specs.Run.{State, Ending, step_at, scene_of, start_state, outcome_of, machine_run}
 use Rattle.machine.specs.Laws.{OutcomesStay}
@@ -44,5 +38,5 @@ pub outcomes_stay : OutcomesStay
 outcomes_stay m r decoded start answers n k =
     let step = step_at (scene_of m r decoded start) in
     let e : machine_run m r decoded start answers (n + k) ≡ outcome_of (go_on (steps State Ending step n r.entry (start_state start answers)) (steps State Ending step k))
-      = ap outcome_of (more_steps State Ending step n k r.entry (start_state start answers)) in
+    = ap outcome_of (more_steps State Ending step n k r.entry (start_state start answers)) in
     elim (stays (steps State Ending step n r.entry (start_state start answers)) (steps State Ending step k)) [ inl g ↦ inl g | inr s ↦ inr (e ∙ s) ]

@@ -1,17 +1,16 @@
 -- When a step strays, in tests and in words.
-use Rattle.std.proofs.Common.{◌≡◌, ℕ, zero, suc, ◌+◌, ◌-◌, ◌%◌, ◌^◌, ◌<◌, ◌≤◌, ◌⊎◌, inl, inr, ◌↔◌, Bool, true, false, not, ◌&&◌, ◌||◌, ◌==◌, nat_le, nat_lt, List, [], ◌∷◌, length, Option, Some, None, refl, sym, ap, ◌∙◌, subst, arith, rules, cond, add-zero}
+use Rattle.std.proofs.Common.{◌≡◌, ℕ, zero, suc, ◌+◌, ◌-◌, ◌%◌, ◌^◌, ◌<◌, ◌≤◌, ◌⊎◌, inl, inr, ◌↔◌, Bool, true, false, not, ◌&&◌, ◌||◌, ◌==◌, nat_le, nat_lt, List, [], ◌∷◌, length, Option, Some, refl, sym, subst, arith, cond, add-zero}
 use Rattle.std.specs.Prelude.{IsSome}
-use Rattle.std.specs.List.{list_all}
-use Rattle.std.proofs.lemmas.Bool.{cases_lt, cases_eq, cases_Bool, eqb-true, eqb-false, eq-eqb, ne_eqb, le-leb, lt-ltb, leb-true, ltb-true, and_parts, and_from, and_cases, and_left, and_right, or_cases, or_parts, or_left, or_right, not-true, not-false, not_from_true, not_from_false, both_ways}
+use Rattle.std.proofs.lemmas.Bool.{cases_eq, cases_Bool, eqb-true, eqb-false, ne_eqb, le-leb, lt-ltb, leb-true, ltb-true, and_parts, and_from, and_cases, or_cases, or_parts, or_left, or_right, not-true, not_from_false, both_ways}
 use Rattle.elf_image.specs.declared.image.Segment.{Segment}
 use Rattle.elf_image.specs.Image.{frozen_byte, is_frozen_in}
 use Rattle.elf_image.specs.Range.{is_inside}
 use Rattle.dream_words.specs.declared.outcome.Answer.{Answer}
 use Rattle.dream_words.specs.Memory.{Mem, byte_at}
 use Rattle.x86_inst.specs.declared.Inst.{Inst}
-use Rattle.machine.specs.Meaning.{Effect, Go, Next, Again, To, CallTo, LeaveTo, Return, Fault, Stray, is_indirect}
+use Rattle.machine.specs.Meaning.{Go, Next, Again, To, CallTo, LeaveTo, Return, Fault, Stray, is_indirect}
 use Rattle.machine.specs.Code.{all_below, keeps_frozen, keeps_slot, is_broken}
-use Rattle.machine.specs.Run.{Scene, State, stored, answer_breaks, is_middle, strays_in, strays}
+use Rattle.machine.specs.Run.{Scene, State, stored, answer_breaks, is_middle, strays_in}
 use Rattle.machine.specs.Laws.{StrayingIsExact, Breaks, AnswerBreaks, IsMiddle, GoStrays}
 use Rattle.machine.specs.Laws as laws
 
@@ -196,15 +195,16 @@ if_strays sc i m _ laws.undefined = refl
 
 pub straying_is_exact : StrayingIsExact
 straying_is_exact sc i m e =
-    let mem = stored m.mem e.store in
-    ( (λ h. elim (or_cases (is_broken sc.image sc.slot m.mem mem) (strays_in sc i m e.go) h) [
+    let mem = stored m.mem e.store in (
+      (λ h. elim (or_cases (is_broken sc.image sc.slot m.mem mem) (strays_in sc i m e.go) h) [
         | inl b ↦ inl (breaks sc.image sc.slot m.mem mem b)
         | inr s ↦ inr (go_strays sc i m e.go s)
-      ])
-    , (λ h. elim h [
+      ]),
+      (λ h. elim h [
         | inl b ↦ or_left _ (strays_in sc i m e.go) (broken sc.image sc.slot m.mem mem b)
         | inr s ↦ or_right (is_broken sc.image sc.slot m.mem mem) _ (if_strays sc i m e.go s)
-      ]) )
+      ]),
+    )
 
 -- memory that isn't written is kept
 pub unbroken : (m : List Segment) (s : ℕ) (mem : Mem) → is_broken m s mem mem ≡ false

@@ -1,12 +1,11 @@
 -- Laws that a reader expects of the machine.
-use Rattle.std.specs.Prelude.{◌≡◌, ◌⊎◌, ◌↔◌, ℕ, ◌+◌, ◌%◌, ◌^◌, ◌<◌, ◌≤◌, Bool, true, false, List, [], ◌∷◌, Option, Some, None, IsSome}
+use Rattle.std.specs.Prelude.{◌≡◌, ◌⊎◌, ◌↔◌, ℕ, ◌+◌, ◌%◌, ◌^◌, ◌<◌, true, List, [], ◌∷◌, Option, IsSome}
 use Rattle.elf_image.specs.declared.image.Segment.{Segment}
 use Rattle.elf_image.specs.declared.range.Range.{Range}
 use Rattle.elf_image.specs.Image.{frozen_byte}
 use Rattle.elf_image.specs.Range.{is_inside}
 use Rattle.dream_words.specs.declared.outcome.Start.{Start}
 use Rattle.dream_words.specs.declared.outcome.Answer.{Answer}
-use Rattle.dream_words.specs.declared.outcome.Outcome.{Outcome}
 use Rattle.dream_words.specs.Memory.{Mem, byte_at}
 use Rattle.dream_words.specs.Same.{IsGoing}
 use Rattle.x86_inst.specs.declared.Inst.{Inst}

@@ -1,6 +1,6 @@
 -- What an instruction does to registers, flags and memory, and where the run goes on (Intel SDM vol. 2).
 -- Only of this stage: four forms have a meaning.
-use Rattle.std.specs.Prelude.{ℕ, zero, suc, ◌+◌, ◌^◌, ◌<◌, ◌==◌, ◌&&◌, nat_lt, Bool, true, false, Option, Some, None, if◌then◌else◌}
+use Rattle.std.specs.Prelude.{ℕ, zero, ◌+◌, ◌^◌, ◌<◌, ◌==◌, ◌&&◌, nat_lt, Bool, true, false, Option, Some, None, if◌then◌else◌}
 use Rattle.dream_words.specs.declared.machine.Regs.{Regs}
 use Rattle.dream_words.specs.declared.machine.Width.{Width}
 use Rattle.dream_words.specs.declared.machine.Flags.{Flags}

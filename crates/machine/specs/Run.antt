@@ -16,7 +16,7 @@ use Rattle.dream_words.specs.Ranges.{AreWords, AreBytes}
 use Rattle.x86_inst.specs.declared.Inst.{Inst}
 use Rattle.machine.specs.declared.form.Form.{Form}
 use Rattle.machine.specs.Meaning.{Stored, Go, Next, Again, To, CallTo, LeaveTo, Return, Fault, Stray, Effect, effect_of, form_of, is_indirect}
-use Rattle.machine.specs.Steps.{Onward, At, Finished, Strays, Blank, go_on, judged, steps}
+use Rattle.machine.specs.Steps.{Onward, At, Finished, Strays, Blank, judged, steps}
 use Rattle.machine.specs.Code.{is_broken}
 
 -- ---- where a run stands, and how it ends

@@ -32,10 +32,7 @@ impl Form {
                 Some(Form::Move { to, from })
             }
             Inst::Alu(AluOp::Add, Size::W, Operand::Reg(to), Operand::Reg(from))
-                if to < 8 && from < 8 =>
-            {
-                Some(Form::Add { to, from })
-            }
+                if to < 8 && from < 8 => { Some(Form::Add { to, from }) }
             Inst::Ret(0) => Some(Form::Return),
             _ => None,
         }

@@ -1,4 +1,4 @@
-use Rattle.std.proofs.Common.{◌+◌, ◌-◌, ◌%◌, ◌^◌, ◌≤◌, length, vec_len}
+use Rattle.std.proofs.Common.{◌+◌, ◌-◌, ◌%◌, ◌^◌, ◌≤◌, length}
 use Rattle.dream_engine.proofs.Path.{IsSoFar}
 use Rattle.dream_engine.proofs.line.straight_line.Given as goal
 

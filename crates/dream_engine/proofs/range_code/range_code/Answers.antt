@@ -1,7 +1,5 @@
-use Rattle.std.proofs.Common.{◌≡◌, ◌<◌, ◌≤◌, length, min, ap, sym, ◌∙◌, rules, arith}
+use Rattle.std.proofs.Common.{◌≡◌, length, ap, ◌∙◌, arith}
 use Rattle.elf_image.specs.Range.{bytes_to_end}
-use Rattle.dream_engine.specs.declared.place.FlowFault.TheVariants.{Outside}
-use Rattle.dream_engine.specs.Place.{NamesRange, range_place}
 use Rattle.dream_engine.proofs.Frozen.{short_place, no_range_place, whole_fits, code_at_most}
 use Rattle.dream_engine.proofs.range_code.range_code.Goals as goal
 

@@ -1,4 +1,4 @@
-use Rattle.std.proofs.Common.{◌≡◌, true, subst, sym, ◌∙◌, string_bytes, rules, arith}
+use Rattle.std.proofs.Common.{◌≡◌, true, subst, sym, ◌∙◌, string_bytes}
 use Rattle.std.specs.Str.{bytes_eq}
 use Rattle.dream_outside.proofs.Held.{found_at}
 use Rattle.dream_outside.proofs.mem_files.place_of.Goals as goal

@@ -1,4 +1,4 @@
-use Rattle.std.proofs.Common.{rules, arith, ap, sym, ◌∙◌, length, ◌≡◌, ◌<◌, drop, take, ℕ, List}
+use Rattle.std.proofs.Common.{arith, ap, sym, ◌∙◌, length, ◌≡◌, take, ℕ, List}
 use Rattle.dream_outside.specs.MemFiles.{left_in, opened}
 use Rattle.dream_outside.proofs.Taken.{front_taken, none_left}
 use Rattle.dream_outside.proofs.mem_files.MemFilesFiles.take.Goals as goal

@@ -1,4 +1,4 @@
-use Rattle.std.proofs.Common.{◌≡◌, ◌<◌, ◌+◌, ◌-◌, ◌++◌, ◌∷◌, [], sym, ap, ◌∙◌, arith, rules}
+use Rattle.std.proofs.Common.{◌≡◌, ◌<◌, ◌+◌, ◌-◌, ◌++◌, ◌∷◌, [], sym, ap, ◌∙◌, arith}
 use Rattle.elf_image.specs.Range.{frozen_from}
 use Rattle.elf_image.proofs.FrozenBytes.{none_more, one_more}
 use Rattle.elf_image.proofs.image.Image.bytes_to_end.Goals as goal
