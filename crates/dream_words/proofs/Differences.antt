@@ -1,16 +1,14 @@
 -- The signed overflow of a difference, by its bits.
-use Rattle.std.proofs.Common.{◌≡◌, ℕ, ℤ, pos, suc, zero, ◌+◌, ◌-◌, ◌*◌, ◌/◌, ◌%◌, ◌^◌, ◌<◌, ◌≤◌, ◌+ℤ◌, ◌-ℤ◌, Bool, true, false, nat_eq, nat_le, nat_lt, not, ◌&&◌, cond, bit_and, arith, refl, ap, sym, ◌⊎◌, inl, inr, int_le, int_lt, ◌∙◌, min, add-one, lit<, subst}
+use Rattle.std.proofs.Common.{◌≡◌, ℕ, pos, suc, zero, ◌+◌, ◌-◌, ◌%◌, ◌^◌, ◌<◌, ◌≤◌, ◌+ℤ◌, ◌-ℤ◌, Bool, true, false, nat_eq, nat_le, not, ◌&&◌, bit_and, arith, refl, ap, sym, ◌⊎◌, inl, inr, int_le, int_lt, ◌∙◌, min, subst}
 use Rattle.std.specs.Prelude.{bit_xor}
 use Rattle.std.specs.Int.{bit_at}
-use Rattle.std.proofs.lemmas.Nat.{mod-pow-add, pow_pos, mod_below}
+use Rattle.std.proofs.lemmas.Nat.{pow_pos, mod_below}
 use Rattle.std.proofs.lemmas.Nat.Bits.{bit_at-lt, bit_at_and, bit_at_xor}
 use Rattle.std.proofs.lemmas.Int.{ints}
 use Rattle.std.proofs.lemmas.Bool.Decides.{nat_tests}
-use Rattle.std.proofs.Math.Pow.{mod-mod-pow}
-use Rattle.std.proofs.Math.Nat.{add-mod, mod-add-mod, add-mod-mod, add_comm, pow-suc, add-mod_right, mod-eq_of_lt}
 use Rattle.std.proofs.lemmas.Bool.{cases_lt}
-use Rattle.dream_words.specs.Words.{low_part, sign_bit, signed_part, fits_signed, bit_of, sum_overflows, difference_overflows, IsSize}
-use Rattle.dream_words.proofs.Signs.{xor_of, sgn_at, sign_bit-bit_at, tests_of, two_halves, bit_small}
+use Rattle.dream_words.specs.Words.{low_part, sign_bit, bit_of, difference_overflows, IsSize}
+use Rattle.dream_words.proofs.Signs.{xor_of, sgn_at, sign_bit-bit_at, two_halves, bit_small}
 
 -- a difference as the code makes it
 abbrev pub dif_32 : ℕ → ℕ → Bool → ℕ

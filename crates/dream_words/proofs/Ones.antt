@@ -4,8 +4,7 @@ use Rattle.std.proofs.Math.Nat.{lt_of_lt_of_le, mod-lt, mul_comm, pow-suc}
 use Rattle.std.proofs.Math.Pow.{pow_mono}
 use Rattle.std.proofs.lemmas.Bool.{cases_eq, le-leb, lt-leb}
 use Rattle.std.proofs.lemmas.Nat.{pow_pos}
-use Rattle.std.proofs.Common.{⊎_elim, Option, Some, None, unwrap_or, lit<, zero, suc, ◌≡◌, ℕ, ◌+◌, ◌*◌, ◌/◌, ◌%◌, ◌^◌, ◌<◌, ◌≤◌, min, refl, sym, ap, ◌∙◌, arith, cond, nat_le, nat_eq, true, false, subst, inl, inr}
-use Rattle.std.proofs.lemmas.Bool.Decides.{nat_tests}
+use Rattle.std.proofs.Common.{⊎_elim, Option, Some, None, unwrap_or, lit<, zero, suc, ◌≡◌, ℕ, ◌+◌, ◌*◌, ◌/◌, ◌%◌, ◌^◌, ◌<◌, ◌≤◌, min, refl, sym, ◌∙◌, arith, cond, nat_le, nat_eq, true, false, subst}
 use lib.Count.{count_trailing_zeros, under}
 use Rattle.dream_words.specs.Words.{lowest_one, highest_one}
 

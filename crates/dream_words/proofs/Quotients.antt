@@ -1,7 +1,7 @@
 -- Signed numbers of twice a size.
-use Rattle.std.proofs.Common.{◌≡◌, ℕ, ℤ, pos, ◌+◌, ◌-◌, ◌*◌, ◌/◌, ◌%◌, ◌^◌, ◌<◌, ◌≤◌, Bool, true, false, nat_le, arith, refl, ap, sym, ◌∙◌, ◌⊎◌, inl, inr, subst}
+use Rattle.std.proofs.Common.{◌≡◌, ℕ, pos, ◌+◌, ◌-◌, ◌*◌, ◌/◌, ◌%◌, ◌^◌, ◌<◌, Bool, true, false, arith, refl, ap, sym, ◌∙◌, inl, inr, subst}
 use Rattle.std.proofs.lemmas.Bool.Decides.{nat_tests}
-use Rattle.std.proofs.Common.{suc, zero, not, cond, nat_eq, Option, Some, None, unsigned_abs, neg_ℤ, ◌*ℤ◌, ◌-ℤ◌, lit<}
+use Rattle.std.proofs.Common.{suc, zero, nat_eq, Some, unsigned_abs, neg_ℤ, ◌*ℤ◌}
 use Rattle.std.specs.Prelude.{int_div, int_rem}
 use Rattle.std.proofs.lemmas.Int.{ints, int_rem_euclid_is}
 use Rattle.std.specs.Int.{int_rem_euclid}

@@ -1,0 +1,5 @@
+mod Walks
+mod Heads
+mod Names
+mod Marked
+mod Reached

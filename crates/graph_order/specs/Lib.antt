@@ -1,0 +1,4 @@
+pub mod Graph
+pub mod Components
+pub mod Order
+pub mod Marks
