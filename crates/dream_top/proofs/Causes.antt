@@ -1,0 +1,156 @@
+-- Each answer excludes the causes of the others.
+use Rattle.std.proofs.Common.{◌≡◌, ◌⊎◌, inl, inr, refl, sym, ◌∙◌, ap, subst, arith, ℕ, ◌<◌, ◌≤◌, List, length, Option, Some, None, Ok, Err}
+use Rattle.std.specs.Option.{IsSomeAnd}
+use Rattle.dream_outside.specs.Causes.{Store, Rose, IsUnheld, HoldsAt}
+use Rattle.elf_image.specs.declared.image.Segment.{Segment}
+use Rattle.elf_image.specs.declared.image.ElfFault.{ElfFault}
+use Rattle.elf_image.specs.declared.range.Range.{Range}
+use Rattle.elf_image.specs.Image.{image_of}
+use Rattle.dream_engine.specs.declared.place.Place.{Place}
+use Rattle.dream_engine.specs.Place.{NamedPlace, NamedAfter, IsLeastPlace, HasNoPlace}
+use Rattle.dream_top.specs.declared.status.Status.{Status}
+use Rattle.dream_top.specs.declared.status.Status.TheVariants.{Done, Usage, ReadFault, WriteFault, NoMemory, NotElf, NoFunction, Outside, FileTooLarge, NotProfile}
+use Rattle.dream_top.specs.CommandLine.{Command, command_of}
+use Rattle.dream_top.specs.Answers.{limit, Reading, Writing, Holds, IsReadFault, Loads, Decompiles, Answers, AnswersCommand}
+use Rattle.dream_top.specs.Laws.{HasNoFault, IsAccepted, NoRefusalWithoutCause, EachCauseHasItsAnswer}
+
+-- ---- what is held
+
+-- bytes that are held are such as what is held
+held_is : (held : Store) (path bytes : List ℕ) (P : List ℕ → Type 0) → HoldsAt held path bytes → Holds held path P → P bytes
+held_is None path bytes P at h = absurd at
+held_is (Some files) path bytes P at h = subst (λ o. IsSomeAnd o P) at h
+
+-- a path that holds nothing holds no such bytes
+none_held : (held : Store) (path : List ℕ) (P : List ℕ → Type 0) → IsUnheld held path → Holds held path P → ⊥
+none_held None path P un h = absurd un
+none_held (Some files) path P un h = subst (λ o. IsSomeAnd o P) un h
+
+-- a path holds bytes or nothing
+held_or_none : (held : Store) (path bytes : List ℕ) → HoldsAt held path bytes → IsUnheld held path → ⊥
+held_or_none None path bytes at un = absurd at
+held_or_none (Some files) path bytes at un = cc
+
+-- no fault of reading comes where bytes are held and no count rose
+no_read_fault : (i : Reading) (path bytes : List ℕ) → HoldsAt i.held path bytes → (Rose i.faults i.faults_now → ⊥) → IsReadFault i path → ⊥
+no_read_fault i path bytes at quiet f = elim f.cause [ inl rose ↦ quiet rose | inr un ↦ held_or_none i.held path bytes at un ]
+
+-- the image that was loaded is that of the bytes that are held
+same_image : (i : Reading) (path bytes : List ℕ) (m n : List Segment) → HoldsAt i.held path bytes → image_of bytes ≡ Ok m
+    → Loads i path (λ all. image_of all ≡ Ok n) → n ≡ m
+same_image i path bytes m n at image l = let e = (held_is i.held path bytes (λ all. (length all ≤ limit) × (image_of all ≡ Ok n)) at l.held).1 in cc
+
+-- ---- places
+
+-- a place is named, or none is
+named_or_none : (m : List Segment) (r : Range) (p : Place) → NamedPlace m r p → HasNoPlace m r → ⊥
+named_or_none m r p named none = let l : IsLeastPlace m r p = subst (λ o. NamedAfter o m r p) none.range named in none.reached p.at p.cause l.reached l.has_cause
+
+-- ---- the laws
+
+done_or_memory : (s : Status) (i : Reading) (o : Writing) (c : Command) (bytes : List ℕ) (m : List Segment) → HoldsAt i.held c.path bytes → length bytes ≤ limit
+    → image_of bytes ≡ Ok m → HasNoPlace m c.range → HasNoFault i o → AnswersCommand s i o c → (s ≡ Done) ⊎ (s ≡ NoMemory)
+done_or_memory Done i o c bytes m at small image none quiet a = inl refl
+done_or_memory NoMemory i o c bytes m at small image none quiet a = inr refl
+done_or_memory WriteFault i o c bytes m at small image none quiet a = absurd (quiet.out a.2.rose)
+done_or_memory ReadFault i o c bytes m at small image none quiet a = absurd (no_read_fault i c.path bytes at quiet.files a.0)
+done_or_memory FileTooLarge i o c bytes m at small image none quiet a =
+    let long : limit < length bytes = held_is i.held c.path bytes (λ all. limit < length all) at a.0.held in absurd (omega arith)
+done_or_memory (NotElf f) i o c bytes m at small image none quiet a =
+    let e = (held_is i.held c.path bytes (λ all. (length all ≤ limit) × (image_of all ≡ Err f)) at a.0.held).1 in absurd (cc)
+done_or_memory (Outside p) i o c bytes m at small image none quiet a =
+    let e : a.0.0 ≡ m = same_image i c.path bytes m a.0.0 at image a.0.1 in
+    absurd (named_or_none m c.range p (subst (λ n. NamedPlace n c.range p) e a.0.2) none)
+done_or_memory Usage i o c bytes m at small image none quiet a = absurd a.0
+done_or_memory NoFunction i o c bytes m at small image none quiet a = absurd a.0
+done_or_memory (NotProfile k) i o c bytes m at small image none quiet a = absurd a.0
+
+pub no_refusal_without_cause : NoRefusalWithoutCause
+no_refusal_without_cause words i o c bytes m s accepted none quiet a =
+    done_or_memory s i o c bytes m accepted.held accepted.small accepted.image none quiet (subst (λ asked. Answers s i o asked) accepted.command a)
+
+fault_or_memory : (i : Reading) (o : Writing) (c : Command) (s : Status) → IsUnheld i.held c.path → AnswersCommand s i o c → (s ≡ ReadFault) ⊎ (s ≡ NoMemory)
+fault_or_memory i o c ReadFault un a = inl refl
+fault_or_memory i o c NoMemory un a = inr refl
+fault_or_memory i o c Done un a = absurd (none_held i.held c.path _ un a.1.1.held)
+fault_or_memory i o c WriteFault un a = absurd (none_held i.held c.path _ un a.1.1.held)
+fault_or_memory i o c FileTooLarge un a = absurd (none_held i.held c.path _ un a.0.held)
+fault_or_memory i o c (NotElf f) un a = absurd (none_held i.held c.path _ un a.0.held)
+fault_or_memory i o c (Outside p) un a = absurd (none_held i.held c.path _ un a.0.1.held)
+fault_or_memory i o c Usage un a = absurd a.0
+fault_or_memory i o c NoFunction un a = absurd a.0
+fault_or_memory i o c (NotProfile k) un a = absurd a.0
+
+-- a file that was loaded is no longer than the limit
+loaded_small : (i : Reading) (path bytes : List ℕ) (P : List ℕ → Type 0) → HoldsAt i.held path bytes → Loads i path P → (length bytes ≤ limit) × P bytes
+loaded_small i path bytes P at l = held_is i.held path bytes (λ all. (length all ≤ limit) × P all) at l.held
+
+long_or_memory : (i : Reading) (o : Writing) (c : Command) (bytes : List ℕ) (s : Status) → HoldsAt i.held c.path bytes → limit < length bytes
+    → HasNoFault i o → AnswersCommand s i o c → (s ≡ FileTooLarge) ⊎ (s ≡ NoMemory)
+long_or_memory i o c bytes FileTooLarge at long quiet a = inl refl
+long_or_memory i o c bytes NoMemory at long quiet a = inr refl
+long_or_memory i o c bytes Done at long quiet a = let small : length bytes ≤ limit = (loaded_small i c.path bytes _ at a.1.1).0 in absurd (omega arith)
+long_or_memory i o c bytes WriteFault at long quiet a = absurd (quiet.out a.2.rose)
+long_or_memory i o c bytes ReadFault at long quiet a = absurd (no_read_fault i c.path bytes at quiet.files a.0)
+long_or_memory i o c bytes (NotElf f) at long quiet a = let small : length bytes ≤ limit = (loaded_small i c.path bytes _ at a.0).0 in absurd (omega arith)
+long_or_memory i o c bytes (Outside p) at long quiet a = let small : length bytes ≤ limit = (loaded_small i c.path bytes _ at a.0.1).0 in absurd (omega arith)
+long_or_memory i o c bytes Usage at long quiet a = absurd a.0
+long_or_memory i o c bytes NoFunction at long quiet a = absurd a.0
+long_or_memory i o c bytes (NotProfile k) at long quiet a = absurd a.0
+
+-- a fault is none of an image that was loaded
+not_broken : (i : Reading) (path bytes : List ℕ) (f : ElfFault) (m : List Segment) → HoldsAt i.held path bytes → image_of bytes ≡ Err f
+    → Loads i path (λ all. image_of all ≡ Ok m) → ⊥
+not_broken i path bytes f m at image l = let e = (loaded_small i path bytes (λ all. image_of all ≡ Ok m) at l).1 in cc
+
+broken_or_memory : (i : Reading) (o : Writing) (c : Command) (bytes : List ℕ) (f : ElfFault) (s : Status) → HoldsAt i.held c.path bytes
+    → length bytes ≤ limit → image_of bytes ≡ Err f → HasNoFault i o → AnswersCommand s i o c → (s ≡ NotElf f) ⊎ (s ≡ NoMemory)
+broken_or_memory i o c bytes f (NotElf g) at small image quiet a =
+    let e = (loaded_small i c.path bytes (λ all. image_of all ≡ Err g) at a.0).1 in
+    let same : g ≡ f = cc in
+    inl (ap NotElf same)
+broken_or_memory i o c bytes f NoMemory at small image quiet a = inr refl
+broken_or_memory i o c bytes f Done at small image quiet a = absurd (not_broken i c.path bytes f a.1.0 at image a.1.1)
+broken_or_memory i o c bytes f WriteFault at small image quiet a = absurd (not_broken i c.path bytes f a.1.0 at image a.1.1)
+broken_or_memory i o c bytes f ReadFault at small image quiet a = absurd (no_read_fault i c.path bytes at quiet.files a.0)
+broken_or_memory i o c bytes f FileTooLarge at small image quiet a =
+    let long : limit < length bytes = held_is i.held c.path bytes (λ all. limit < length all) at a.0.held in absurd (omega arith)
+broken_or_memory i o c bytes f (Outside p) at small image quiet a = absurd (not_broken i c.path bytes f a.0.0 at image a.0.1)
+broken_or_memory i o c bytes f Usage at small image quiet a = absurd a.0
+broken_or_memory i o c bytes f NoFunction at small image quiet a = absurd a.0
+broken_or_memory i o c bytes f (NotProfile k) at small image quiet a = absurd a.0
+
+-- a range that was decompiled names no place
+not_named : (i : Reading) (c : Command) (bytes text : List ℕ) (m : List Segment) (p : Place) → HoldsAt i.held c.path bytes → image_of bytes ≡ Ok m
+    → NamedPlace m c.range p → Decompiles i c text → ⊥
+not_named i c bytes text m p at image named d =
+    let e : d.0 ≡ m = same_image i c.path bytes m d.0 at image d.1 in
+    named_or_none m c.range p named (subst (λ n. HasNoPlace n c.range) e d.2.no_place)
+
+outside_or_memory : (i : Reading) (o : Writing) (c : Command) (bytes : List ℕ) (m : List Segment) (p : Place) (s : Status) → HoldsAt i.held c.path bytes
+    → length bytes ≤ limit → image_of bytes ≡ Ok m → NamedPlace m c.range p → HasNoFault i o → AnswersCommand s i o c
+    → ((q : Place) × NamedPlace m c.range q × (s ≡ Outside q)) ⊎ (s ≡ NoMemory)
+outside_or_memory i o c bytes m p (Outside q) at small image named quiet a =
+    let e : a.0.0 ≡ m = same_image i c.path bytes m a.0.0 at image a.0.1 in
+    inl (q, subst (λ n. NamedPlace n c.range q) e a.0.2, refl)
+outside_or_memory i o c bytes m p NoMemory at small image named quiet a = inr refl
+outside_or_memory i o c bytes m p Done at small image named quiet a = absurd (not_named i c bytes a.0 m p at image named a.1)
+outside_or_memory i o c bytes m p WriteFault at small image named quiet a = absurd (not_named i c bytes a.0 m p at image named a.1)
+outside_or_memory i o c bytes m p ReadFault at small image named quiet a = absurd (no_read_fault i c.path bytes at quiet.files a.0)
+outside_or_memory i o c bytes m p FileTooLarge at small image named quiet a =
+    let long : limit < length bytes = held_is i.held c.path bytes (λ all. limit < length all) at a.0.held in absurd (omega arith)
+outside_or_memory i o c bytes m p (NotElf f) at small image named quiet a =
+    let e = (held_is i.held c.path bytes (λ all. (length all ≤ limit) × (image_of all ≡ Err f)) at a.0.held).1 in absurd (cc)
+outside_or_memory i o c bytes m p Usage at small image named quiet a = absurd a.0
+outside_or_memory i o c bytes m p NoFunction at small image named quiet a = absurd a.0
+outside_or_memory i o c bytes m p (NotProfile k) at small image named quiet a = absurd a.0
+
+pub each_cause_has_its_answer : EachCauseHasItsAnswer
+each_cause_has_its_answer = record {
+  usage = λ i o s a. a.0;
+  unheld = fault_or_memory;
+  too_large = long_or_memory;
+  broken = broken_or_memory;
+  outside = λ words i o c bytes m p s accepted named quiet a.
+      outside_or_memory i o c bytes m p s accepted.held accepted.small accepted.image named quiet (subst (λ asked. Answers s i o asked) accepted.command a);
+}

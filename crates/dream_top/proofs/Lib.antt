@@ -1,0 +1,4 @@
+mod Hex
+mod Streams
+mod Held
+mod Causes

@@ -1,0 +1,56 @@
+-- Which lists of words are which command. The words are those after the program's name.
+use Rattle.std.specs.Prelude.{ℕ, ◌+◌, ◌-◌, ◌*◌, ◌&&◌, ◌==◌, nat_le, nat_eq, List, [], ◌∷◌, length, drop, Option, Some, None, if◌then◌else◌, codes}
+use Rattle.std.specs.List.{starts_with, before_first, after_first}
+use Rattle.std.specs.Option.{option_and_then}
+use Rattle.std.specs.Str.{bytes_eq}
+use Rattle.elf_image.specs.declared.range.Range.{Range}
+use Rattle.elf_image.specs.Range.{range}
+
+-- ---- FUNC, where it is an address form
+
+-- the value of a hexadecimal digit: `0` to `9`, `a` to `f` or `A` to `F`
+abbrev pub hex_digit : ℕ → Option ℕ
+hex_digit b =
+    if nat_le 48 b && nat_le b 57 then Some (b - 48) else
+    (if nat_le 97 b && nat_le b 102 then Some (b - 97 + 10) else
+    (if nat_le 65 b && nat_le b 70 then Some (b - 65 + 10) else None))
+
+-- the value of digits that come after those of v
+abbrev pub hex_after : ℕ → List ℕ → Option ℕ
+hex_after v [] = Some v
+hex_after v (b ∷ bs) = option_and_then (λ d. hex_after (16 * v + d) bs) (hex_digit b)
+
+-- the value of one to eight hexadecimal digits
+abbrev pub hex_number : List ℕ → Option ℕ
+hex_number digits = if nat_le 1 (length digits) && nat_le (length digits) 8 then hex_after 0 digits else None
+
+-- the range of an address and a size with a `+` between them
+abbrev pub sum_form : List ℕ → Option Range
+sum_form sum =
+    option_and_then (λ entry. option_and_then (λ size. Some (range entry size)) (hex_number (after_first (λ b. b == 43) sum)))
+    (hex_number (before_first (λ b. b == 43) sum))
+
+-- `0x`, one to eight hexadecimal digits, `+`, and one to eight hexadecimal digits for the size
+abbrev pub address_form : List ℕ → Option Range
+address_form func = if starts_with nat_eq func (codes "0x") then sum_form (drop 2 func) else None
+
+-- ---- the commands
+
+-- what the words ask for: the C of the function at a range of the file at a path
+pub record Command : Type 0 where
+  pub path : List ℕ
+  pub range : Range
+
+abbrev pub command : List ℕ → Range → Command
+command path range = record { path = path; range = range }
+
+-- PATH is not empty, and FUNC is an address form.
+abbrev pub function_at : List ℕ → Option Range → Option Command
+function_at [] func = None
+function_at (b ∷ bs) None = None
+function_at (b ∷ bs) (Some r) = Some (command (b ∷ bs) r)
+
+-- `decompile PATH FUNC`; every other list of words is no command
+abbrev pub command_of : List (List ℕ) → Option Command
+command_of (name ∷ path ∷ func ∷ []) = if bytes_eq name (codes "decompile") then function_at path (address_form func) else None
+command_of _ = None

@@ -1,0 +1,6 @@
+pub mod Statuses
+pub mod CommandLine
+pub mod Notes
+pub mod Answers
+pub mod Loading
+pub mod Laws

@@ -1,0 +1,43 @@
+//! The status of each fault on the way to a text.
+
+ghost use Rattle.std.specs.Prelude.{◌≡◌};
+ghost use Rattle.dream_top.specs.Loading.{load_status, image_status, flow_status};
+
+use crate::load::LoadFault;
+use crate::status::Status;
+use dream_engine::FlowFault;
+use elf_image::ImageFault;
+
+impl From<LoadFault> for Status {
+    ghost from_gives = { λ fault status. status ≡ load_status fault };
+
+    fn from(fault: LoadFault) -> Status {
+        match fault {
+            LoadFault::Fault => Status::ReadFault,
+            LoadFault::TooLarge => Status::FileTooLarge,
+            LoadFault::Memory => Status::NoMemory,
+        }
+    }
+}
+
+impl From<ImageFault> for Status {
+    ghost from_gives = { λ fault status. status ≡ image_status fault };
+
+    fn from(fault: ImageFault) -> Status {
+        match fault {
+            ImageFault::Elf(fault) => Status::NotElf(fault),
+            ImageFault::Memory => Status::NoMemory,
+        }
+    }
+}
+
+impl From<FlowFault> for Status {
+    ghost from_gives = { λ fault status. status ≡ flow_status fault };
+
+    fn from(fault: FlowFault) -> Status {
+        match fault {
+            FlowFault::Outside(place) => Status::Outside(place),
+            FlowFault::Memory => Status::NoMemory,
+        }
+    }
+}

@@ -1,0 +1,360 @@
+//! Worked rows: files, words, and what they are answered.
+
+ghost use Rattle.std.specs.Prelude.{None};
+
+use crate::{Status, dream};
+use dream_engine::{Cause, Place};
+use dream_outside::{Failed, Files, MemFile, MemFiles, MemSink};
+use elf_image::ElfFault;
+use std::alloc::Global;
+use std::test::Fail;
+
+// `mov eax, 5` and `ret`.
+const MOVE: [u8; 6] = [0xb8, 5, 0, 0, 0, 0xc3];
+
+// A header, one program header at place 52, zeros up to place 0x100 and the code there. All of the file is loaded at the
+// address `base`; where `twice` holds, it is so by two equal headers.
+fn elf_at(alloc: Global, base: u32, code: &[u8], twice: bool) -> Result<Vec<u8>, Fail> {
+    let size = u32::try_from(0x100 + code.len())?;
+    let count = if twice { 2 } else { 1 };
+    let header = [0x0003_0002, 1, 0x0804_8100, 52, 0, 0, 0x0020_0034, count, 0];
+    let segment = [1, 0, base, base, size, size, 5, 4096];
+    let mut bytes = Vec::from_slice(alloc, b"\x7fELF\x01\x01\x01\0\0\0\0\0\0\0\0\0")?;
+    for word in header {
+        bytes.extend_from_slice(&u32::to_le_bytes(word))?;
+    }
+    for _ in 0..count {
+        for word in segment {
+            bytes.extend_from_slice(&u32::to_le_bytes(word))?;
+        }
+    }
+    bytes.resize(0x100, 0)?;
+    bytes.extend_from_slice(code)?;
+    Ok(bytes)
+}
+
+// The code at 0x08048100.
+fn elf(alloc: Global, code: &[u8]) -> Result<Vec<u8>, Fail> {
+    elf_at(alloc, 0x0804_8000, code, false)
+}
+
+// What a call of the program answered and wrote.
+#[derive(Drop)]
+struct Ran {
+    status: Status,
+    out: MemSink,
+    notes: MemSink,
+}
+
+fn sink(alloc: Global) -> Result<MemSink, Fail> {
+    Ok(MemSink::new(alloc, 67_108_864, 67_108_864, Vec::new(alloc))?)
+}
+
+fn call<F: Files>(
+    alloc: Global,
+    files: &mut F,
+    words: &[&str],
+    mut out: MemSink,
+) -> Result<Ran, Fail> {
+    let mut list = Vec::new(alloc);
+    for word in words {
+        list.push(String::from_str(alloc, word)?)?;
+    }
+    let mut notes = sink(alloc)?;
+    let status = dream(alloc, &list, files, &mut out, &mut notes);
+    Ok(Ran { status, out, notes })
+}
+
+// One file, at the path `a`.
+fn files(alloc: Global, bytes: Vec<u8>, fails: Vec<u64>) -> Result<MemFiles, Fail> {
+    let path = String::from_str(alloc, "a")?;
+    Ok(MemFiles::new(vec![in alloc; MemFile { path, bytes }]?, fails))
+}
+
+fn decompile(alloc: Global, file: Vec<u8>, func: &str) -> Result<Ran, Fail> {
+    let mut files = files(alloc, file, Vec::new(alloc))?;
+    call(alloc, &mut files, &["decompile", "a", func], sink(alloc)?)
+}
+
+#[test]
+fn answers_with_ample_memory(rt: HostRuntime) -> Result<(), Fail> {
+    let alloc = rt.alloc();
+    let ran = decompile(alloc, elf(alloc, &MOVE)?, "0x08048100+6")?;
+    let text =
+        "#include \"dream386.h\"\n\nvoid f_08048100(void)\n{\n  eax = 0x5u;\n  esp = (esp + 0x4u);\n  return;\n}\n";
+    assert!(rt; ran.status == Status::Done);
+    assert_eq!(rt; ran.status.code(), 0);
+    assert_eq!(rt; ran.out.bytes().len(), 95);
+    assert_eq!(rt; ran.out.bytes(), text.as_bytes());
+    assert_eq!(rt; ran.notes.bytes().len(), 0);
+    Ok(())
+}
+
+#[test]
+fn prints_straight_lines(rt: HostRuntime) -> Result<(), Fail> {
+    let alloc = rt.alloc();
+    let cases: [(&[u8], u32, &str, &str); 3] = [
+        // A move and a sum of registers.
+        (
+            &[0x89, 0xc8, 0x01, 0xd0, 0xc3],
+            0x0804_8000,
+            "0x08048100+5",
+            "#include \"dream386.h\"\n\nvoid f_08048100(void)\n{\n  eax = ecx;\n  eax = (eax + edx);\n  esp = (esp + 0x4u);\n  return;\n}\n",
+        ),
+        // Code that leaves the range.
+        (
+            &MOVE[..5],
+            0x0804_8000,
+            "0x8048100+00000005",
+            "#include \"dream386.h\"\n\nvoid f_08048100(void)\n{\n  eax = 0x5u;\n  ext(0x8048105u);\n  return;\n}\n",
+        ),
+        // Code up to the last address.
+        (
+            &MOVE,
+            0xffff_fefa,
+            "0xFFFFfffa+6",
+            "#include \"dream386.h\"\n\nvoid f_fffffffa(void)\n{\n  eax = 0x5u;\n  esp = (esp + 0x4u);\n  return;\n}\n",
+        ),
+    ];
+    for (code, base, func, text) in cases {
+        let ran = decompile(alloc, elf_at(alloc, base, code, false)?, func)?;
+        assert!(rt; ran.status == Status::Done, "{func}");
+        assert_eq!(rt; ran.out.bytes(), text.as_bytes(), "{func}");
+        assert_eq!(rt; ran.notes.bytes().len(), 0, "{func}");
+    }
+    Ok(())
+}
+
+#[test]
+fn names_the_place_outside(rt: HostRuntime) -> Result<(), Fail> {
+    let alloc = rt.alloc();
+    let cases = [
+        (
+            "0x08048100+0",
+            0x0804_8100,
+            Cause::RangeEmpty,
+            "dream: outside the profile: RangeEmpty at 0x08048100\n",
+        ),
+        (
+            "0x0804810A+0",
+            0x0804_810a,
+            Cause::RangeEmpty,
+            "dream: outside the profile: RangeEmpty at 0x0804810a\n",
+        ),
+        (
+            "0x08048100+3",
+            0x0804_8100,
+            Cause::Straddle,
+            "dream: outside the profile: Straddle at 0x08048100\n",
+        ),
+        (
+            "0x08049000+4",
+            0x0804_9000,
+            Cause::RangeUnbacked,
+            "dream: outside the profile: RangeUnbacked at 0x08049000\n",
+        ),
+        (
+            "0xffffffff+2",
+            0xffff_ffff,
+            Cause::RangeUnbacked,
+            "dream: outside the profile: RangeUnbacked at 0xffffffff\n",
+        ),
+        (
+            "0x08048100+10001",
+            0x0804_8100,
+            Cause::RangeTooLarge,
+            "dream: outside the profile: RangeTooLarge at 0x08048100\n",
+        ),
+    ];
+    for (func, at, cause, note) in cases {
+        let ran = decompile(alloc, elf(alloc, &MOVE)?, func)?;
+        assert!(rt;
+            ran.status == Status::Outside(Place { at, cause }),
+            "{func}"
+        );
+        assert_eq!(rt; ran.notes.bytes(), note.as_bytes(), "{func}");
+        assert_eq!(rt; ran.out.bytes().len(), 0, "{func}");
+    }
+    // All bytes up to the last address are frozen, and the range goes past it.
+    let ran = decompile(
+        alloc,
+        elf_at(alloc, 0xffff_fefa, &MOVE, false)?,
+        "0xfffffffa+7",
+    )?;
+    let place = Place {
+        at: 0xffff_ffff,
+        cause: Cause::RangeUnbacked,
+    };
+    assert!(rt; ran.status == Status::Outside(place));
+    Ok(())
+}
+
+#[test]
+fn tells_how_words_are_used(rt: HostRuntime) -> Result<(), Fail> {
+    let alloc = rt.alloc();
+    let note =
+        "dream: usage: decompile PATH FUNC, plain PATH FUNC, run PATH FUNC N WORDS, tidy PATH, drill N, prelude\n";
+    let cases: [&[&str]; 15] = [
+        &[],
+        &["--help"],
+        &["decompile"],
+        &["decompile", "a"],
+        &["decompile", "", "0x08048100+6"],
+        &["decompile", "a", ""],
+        &["decompile", "a", "08048100+6"],
+        &["decompile", "a", "0x08048100"],
+        &["decompile", "a", "0x08048100+"],
+        &["decompile", "a", "0x+6"],
+        &["decompile", "a", "0x008048100+6"],
+        &["decompile", "a", "0x0804810g+6"],
+        &["decompile", "a", "0x08048100+6", ""],
+        &["plain", "a", "0x08048100+6"],
+        &["drill", "0"],
+    ];
+    for words in cases {
+        let mut files = files(alloc, elf(alloc, &MOVE)?, Vec::new(alloc))?;
+        let ran = call(alloc, &mut files, words, sink(alloc)?)?;
+        assert!(rt; ran.status == Status::Usage, "{words:?}");
+        assert_eq!(rt; ran.notes.bytes(), note.as_bytes(), "{words:?}");
+        assert_eq!(rt; ran.out.bytes().len(), 0, "{words:?}");
+    }
+    Ok(())
+}
+
+// The first bytes of a file.
+fn cut(alloc: Global, len: usize) -> Result<Vec<u8>, Fail> {
+    let mut bytes = elf(alloc, &MOVE)?;
+    bytes.truncate(len);
+    Ok(bytes)
+}
+
+#[test]
+fn refuses_files(rt: HostRuntime) -> Result<(), Fail> {
+    let alloc = rt.alloc();
+    let mut other_class = elf(alloc, &MOVE)?;
+    *other_class.get_mut(4).ok_or("no fourth byte")? = 2;
+    let cases = [
+        (
+            cut(alloc, 0)?,
+            ElfFault { kind: 1, at: 0 },
+            "dream: not an accepted ELF file: Short at 0\n",
+        ),
+        (
+            cut(alloc, 51)?,
+            ElfFault { kind: 1, at: 51 },
+            "dream: not an accepted ELF file: Short at 51\n",
+        ),
+        (
+            cut(alloc, 52)?,
+            ElfFault { kind: 9, at: 28 },
+            "dream: not an accepted ELF file: TableOutside at 28\n",
+        ),
+        (
+            other_class,
+            ElfFault { kind: 3, at: 4 },
+            "dream: not an accepted ELF file: Class at 4\n",
+        ),
+        (
+            elf_at(alloc, 0x0804_8000, &MOVE, true)?,
+            ElfFault { kind: 11, at: 84 },
+            "dream: not an accepted ELF file: Overlap at 84\n",
+        ),
+    ];
+    for (file, fault, note) in cases {
+        let ran = decompile(alloc, file, "0x08048100+6")?;
+        assert!(rt; ran.status == Status::NotElf(fault), "{note}");
+        assert_eq!(rt; ran.notes.bytes(), note.as_bytes());
+        assert_eq!(rt; ran.out.bytes().len(), 0, "{note}");
+    }
+    Ok(())
+}
+
+#[test]
+fn tells_faults_of_the_outside(rt: HostRuntime) -> Result<(), Fail> {
+    let alloc = rt.alloc();
+    // The third call on the files, the second `take`, fails.
+    let mut failing = files(alloc, elf(alloc, &MOVE)?, vec![in alloc; 3]?)?;
+    let ran = call(
+        alloc,
+        &mut failing,
+        &["decompile", "a", "0x08048100+6"],
+        sink(alloc)?,
+    )?;
+    assert!(rt; ran.status == Status::ReadFault);
+    assert_eq!(rt; ran.notes.bytes(), b"dream: read fault\n".as_slice());
+    assert_eq!(rt; ran.out.bytes().len(), 0);
+    // Nothing is held at the path.
+    let mut sound = files(alloc, elf(alloc, &MOVE)?, Vec::new(alloc))?;
+    let ran = call(
+        alloc,
+        &mut sound,
+        &["decompile", "b", "0x08048100+6"],
+        sink(alloc)?,
+    )?;
+    assert!(rt; ran.status == Status::ReadFault);
+    assert_eq!(rt; ran.notes.bytes(), b"dream: read fault\n".as_slice());
+    assert_eq!(rt; ran.out.bytes().len(), 0);
+    // The second put on the output fails.
+    let narrow = MemSink::new(alloc, 67_108_864, 10, vec![in alloc; 2]?)?;
+    let ran = call(
+        alloc,
+        &mut sound,
+        &["decompile", "a", "0x08048100+6"],
+        narrow,
+    )?;
+    assert!(rt; ran.status == Status::WriteFault);
+    assert_eq!(rt; ran.notes.bytes(), b"dream: write fault\n".as_slice());
+    assert_eq!(rt; ran.out.bytes(), b"#include \"".as_slice());
+    Ok(())
+}
+
+// A file of zeros, none of which is kept.
+#[derive(Drop)]
+struct Zeros {
+    left: usize,
+    got: u64,
+}
+
+impl Files for Zeros {
+    ghost held = { λ _. None };
+
+    ghost left = { λ _. None };
+
+    ghost got = { λ z. z.got };
+
+    ghost faults = { λ _. 0 };
+
+    fn open_file(&mut self, _path: &str) -> Result<(), Failed> {
+        self.got = 0;
+        Ok(())
+    }
+
+    fn take(&mut self, into: &mut [u8]) -> Result<usize, Failed> {
+        let count = into.len().min(self.left);
+        self.left -= count;
+        self.got = self.got.saturating_add(count as u64);
+        Ok(count)
+    }
+}
+
+#[test]
+fn refuses_more_bytes_than_the_limit(rt: HostRuntime) -> Result<(), Fail> {
+    let alloc = rt.alloc();
+    let words = ["decompile", "a", "0x08048100+6"];
+    let mut zeros = Zeros {
+        left: 67_108_865,
+        got: 0,
+    };
+    let ran = call(alloc, &mut zeros, &words, sink(alloc)?)?;
+    assert!(rt; ran.status == Status::FileTooLarge);
+    assert_eq!(rt; ran.notes.bytes(), b"dream: file too large\n".as_slice());
+    assert_eq!(rt; ran.out.bytes().len(), 0);
+    // One byte less is read whole.
+    let mut zeros = Zeros {
+        left: 67_108_864,
+        got: 0,
+    };
+    let ran = call(alloc, &mut zeros, &words, sink(alloc)?)?;
+    assert!(rt; ran.status == Status::NotElf(ElfFault { kind: 2, at: 0 }));
+    Ok(())
+}

@@ -1,0 +1,76 @@
+//! The program's one call.
+
+ghost use Rattle.std.specs.Prelude.{◌≡◌, map, string_bytes, IfOk, IfErr};
+ghost use Rattle.dream_top.specs.CommandLine.{command, command_of};
+ghost use Rattle.dream_top.specs.Notes.{note_of};
+ghost use Rattle.dream_top.specs.Answers.{reading_of, writing_of, Decompiles, Refuses, Answers, Tells};
+
+use crate::load::load;
+use crate::notes::tell;
+use crate::status::Status;
+use crate::words::{Command, command_in};
+use crate::writing::put_all;
+use dream_engine::decompile_one;
+use dream_outside::{Files, Sink};
+use elf_image::{Image, Range};
+use std::alloc::Global;
+
+// The text of the function at a range of the file at a path.
+fn decompile<F: Files>(
+    alloc: Global,
+    files: &mut F,
+    path: &str,
+    range: Range,
+) -> Result<Vec<u8>, Status>
+    ensures ok { IfOk result (λ text. Decompiles
+        (reading_of (F.held files.old) (F.faults files.old) (F.faults files.new) (F.got files.old) (F.got files.new))
+        (command path.now range) text.items) }
+    ensures err { IfErr result (λ s. Refuses s
+        (reading_of (F.held files.old) (F.faults files.old) (F.faults files.new) (F.got files.old) (F.got files.new))
+        (command path.now range)) }
+{
+    let bytes = load(alloc, files, path)?;
+    let image = Image::read(alloc, &bytes)?;
+    Ok(decompile_one(alloc, &image, &range)?)
+}
+
+// Does what the words ask for, but for the note.
+fn work<F: Files, K: Sink>(alloc: Global, words: &[String], files: &mut F, out: &mut K) -> Status
+    ensures { Answers result
+        (reading_of (F.held files.old) (F.faults files.old) (F.faults files.new) (F.got files.old) (F.got files.new))
+        (writing_of (K.taken out.old) (K.taken out.new) (K.faults out.old) (K.faults out.new))
+        (command_of (map string_bytes words.now)) }
+{
+    match command_in(words) {
+        None => Status::Usage,
+        Some(Command { path, range }) => match decompile(alloc, files, path, range) {
+            Err(status) => status,
+            Ok(text) => match put_all(out, &text) {
+                Ok(()) => Status::Done,
+                Err(_) => Status::WriteFault,
+            },
+        },
+    }
+}
+
+/// The program: does what the words ask for, writes the output to `out`, and a note of every status but `Done` to
+/// `notes`. A fault of `notes` changes no status.
+pub fn dream<F: Files, K: Sink, E: Sink>(
+    alloc: Global,
+    words: &Vec<String>,
+    files: &mut F,
+    out: &mut K,
+    notes: &mut E,
+) -> Status
+    ensures answer { Answers result
+        (reading_of (F.held files.old) (F.faults files.old) (F.faults files.new) (F.got files.old) (F.got files.new))
+        (writing_of (K.taken out.old) (K.taken out.new) (K.faults out.old) (K.faults out.new))
+        (command_of (map string_bytes words.now.items)) }
+    ensures note { Tells
+        (writing_of (E.taken notes.old) (E.taken notes.new) (E.faults notes.old) (E.faults notes.new))
+        (note_of result) }
+{
+    let status = work(alloc, words, files, out);
+    tell(notes, status);
+    status
+}
