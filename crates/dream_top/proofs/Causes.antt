@@ -1,5 +1,5 @@
 -- Each answer excludes the causes of the others.
-use Rattle.std.proofs.Common.{◌≡◌, ◌⊎◌, inl, inr, refl, sym, ◌∙◌, ap, subst, arith, ℕ, ◌<◌, ◌≤◌, List, length, Option, Some, None, Ok, Err}
+use Rattle.std.proofs.Common.{◌≡◌, ◌⊎◌, inl, inr, refl, ap, subst, arith, ℕ, ◌<◌, ◌≤◌, List, length, Some, None, Ok, Err}
 use Rattle.std.specs.Option.{IsSomeAnd}
 use Rattle.dream_outside.specs.Causes.{Store, Rose, IsUnheld, HoldsAt}
 use Rattle.elf_image.specs.declared.image.Segment.{Segment}
@@ -10,9 +10,9 @@ use Rattle.dream_engine.specs.declared.place.Place.{Place}
 use Rattle.dream_engine.specs.Place.{NamedPlace, NamedAfter, IsLeastPlace, HasNoPlace}
 use Rattle.dream_top.specs.declared.status.Status.{Status}
 use Rattle.dream_top.specs.declared.status.Status.TheVariants.{Done, Usage, ReadFault, WriteFault, NoMemory, NotElf, NoFunction, Outside, FileTooLarge, NotProfile}
-use Rattle.dream_top.specs.CommandLine.{Command, command_of}
+use Rattle.dream_top.specs.CommandLine.{Command}
 use Rattle.dream_top.specs.Answers.{limit, Reading, Writing, Holds, IsReadFault, Loads, Decompiles, Answers, AnswersCommand}
-use Rattle.dream_top.specs.Laws.{HasNoFault, IsAccepted, NoRefusalWithoutCause, EachCauseHasItsAnswer}
+use Rattle.dream_top.specs.Laws.{HasNoFault, NoRefusalWithoutCause, EachCauseHasItsAnswer}
 
 -- ---- what is held
 

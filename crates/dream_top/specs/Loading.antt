@@ -1,7 +1,7 @@
 -- What the parts of reading a file say to each other.
-use Rattle.std.specs.Prelude.{◌≡◌, ◌⊎◌, ℕ, ◌<◌, ◌≤◌, Bool, true, false, List, ◌++◌, length, Option, Some}
+use Rattle.std.specs.Prelude.{◌≡◌, ℕ, ◌<◌, ◌≤◌, Bool, true, false, List, ◌++◌, length, Option, Some}
 use Rattle.std.specs.Io.KnownBytes.{Consumes, IsAtEnd}
-use Rattle.dream_outside.specs.Causes.{Rose, counted, Store, IsUnheld}
+use Rattle.dream_outside.specs.Causes.{Rose, counted}
 use Rattle.dream_top.specs.declared.load.LoadFault.{LoadFault}
 use Rattle.dream_top.specs.declared.load.LoadFault.TheVariants.{Fault, TooLarge, Memory}
 use Rattle.dream_top.specs.declared.status.Status.{Status}

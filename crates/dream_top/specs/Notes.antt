@@ -1,9 +1,7 @@
 -- The note of each status: one line, with a line feed.
 use Rattle.std.specs.Prelude.{ℕ, List, [], ◌∷◌, ◌++◌, codes, slice_index_or}
 use Rattle.std.specs.Fmt.{decimal}
-use Rattle.elf_image.specs.declared.image.ElfFault.{ElfFault}
 use Rattle.c_syntax.specs.Spelling.{last_digits}
-use Rattle.dream_engine.specs.declared.place.Place.{Place}
 use Rattle.dream_engine.specs.declared.place.Cause.{Cause}
 use Rattle.dream_engine.specs.declared.place.Cause.TheVariants.{Instruction, Straddle, IndirectJump, CallInside, RangeEmpty, RangeTooLarge, RangeUnbacked}
 use Rattle.dream_top.specs.declared.status.Status.{Status}

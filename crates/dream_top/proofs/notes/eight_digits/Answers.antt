@@ -1,4 +1,3 @@
-use Rattle.std.proofs.Common.{refl}
 use Rattle.std.proofs.Math.Nat.{div-div-eq-div-mul}
 use Rattle.dream_top.proofs.notes.eight_digits.Goals as goal
 

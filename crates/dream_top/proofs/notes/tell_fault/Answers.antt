@@ -1,4 +1,4 @@
-use Rattle.std.proofs.Common.{◌≡◌, ◌++◌, codes, subst, sym, ◌∙◌}
+use Rattle.std.proofs.Common.{◌≡◌, ◌++◌, codes, subst, ◌∙◌}
 use Rattle.std.specs.Fmt.{decimal}
 use Rattle.dream_top.specs.Answers.{writing_of, Tells}
 use Rattle.dream_top.specs.Notes.{kind_name}

@@ -1,4 +1,4 @@
-use Rattle.std.proofs.Common.{◌≡◌, Ok, sym, subst}
+use Rattle.std.proofs.Common.{◌≡◌, Ok, subst}
 use Rattle.elf_image.specs.Image.{image_of}
 use Rattle.dream_top.specs.Answers.{Reading}
 use Rattle.dream_top.proofs.Held.{loads_such}

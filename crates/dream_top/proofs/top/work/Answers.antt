@@ -1,4 +1,4 @@
-use Rattle.std.proofs.Common.{sym, subst}
+use Rattle.std.proofs.Common.{subst}
 use Rattle.std.specs.Io.KnownBytes.{Appends}
 use Rattle.dream_top.specs.Answers.{writing_of, StopsIn}
 use Rattle.dream_top.proofs.top.work.Goals as goal

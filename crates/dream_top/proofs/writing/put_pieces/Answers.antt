@@ -1,4 +1,4 @@
-use Rattle.std.proofs.Common.{◌≡◌, ℕ, suc, ◌++◌, List, [], take, drop, get_or, subst, arith, Bor}
+use Rattle.std.proofs.Common.{ℕ, suc, List, [], take, drop, get_or, subst, arith, Bor}
 use Rattle.std.specs.List.{flat_map}
 use Rattle.dream_top.specs.Answers.{writing_of, StopsIn}
 use Rattle.dream_top.proofs.Streams.{stops_within, on_err, flat_map_around}
