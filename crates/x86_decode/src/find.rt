@@ -1,14 +1,23 @@
 //! Finds the row of an opcode in the table.
 
-ghost use Rattle.std.specs.Prelude.{◌≡◌};
+ghost use Rattle.std.specs.Prelude.{◌≡◌, map};
 ghost use Rattle.std.specs.List.{find, list_any};
 ghost use Rattle.std.specs.Option.{option_copied, option_map};
 ghost use Rattle.x86_inst.specs.Table.{table};
+ghost use Rattle.x86_decode.specs.declared.table.TheConstants.{TABLE};
 ghost use Rattle.x86_decode.specs.View.{prefixes_of, row_of, opens, opens_at};
 ghost use Rattle.x86_decode.specs.Reading.{allows_0F};
 
 use crate::rows::{Prefixes, Row};
 use crate::table::TABLE;
+
+/// The rows of the opcode table, in its order.
+pub fn all_rows() -> &'static [Row]
+    ensures rows { result.now ≡ TABLE }
+    ensures table { map row_of result.now ≡ table }
+{
+    &TABLE
+}
 
 fn find_row<'a>(rows: &'a [Row], p: &Prefixes, escape: bool, op: u8) -> Option<&'a Row>
     ensures { option_copied result ≡ find (λ r. opens (prefixes_of p.now) escape op (row_of r)) rows.now }

@@ -11,7 +11,12 @@ mod forms;
 mod rows;
 mod table;
 
+pub use build::Fields;
 pub use decoder::{Decoded, decode, one_reading};
+pub use find::all_rows;
+pub use forms::{Form, Immediate, Shifted, Sizing, Source};
+pub use rows::{Mode, Repeats, Row, Width};
+pub use table::TABLE;
 
 #[cfg(test)]
 mod tests;

@@ -1,0 +1,15 @@
+pub mod Flags
+pub mod Equal
+pub mod Fronts
+pub mod Order
+pub mod Best
+pub mod Operands
+pub mod Spelled
+pub mod Prefix
+pub mod Fields
+pub mod Columns
+pub mod Pieces
+pub mod Needed
+pub mod ModRm
+pub mod ByRow
+pub mod Every
