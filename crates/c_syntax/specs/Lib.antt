@@ -1,6 +1,5 @@
 pub mod Words
 pub mod Value
-pub mod Env
 pub mod Run
 pub mod RunLaws
 pub mod AsC

@@ -3,13 +3,11 @@
 //! of a well-formed function stands for it, and that no text stands for two functions.
 #![tactic(auto)]
 
-mod env;
 mod laws;
 mod ops;
 mod syntax;
 mod token;
 
-pub use env::{Env, FlagWords};
 pub use laws::{
     canonical_stands, evaluates_as_c, more_turns_continue, one_function, prints_so, runs_as_c,
 };

@@ -1,10 +1,9 @@
 //! What the names of a function stand for while it runs.
 
 ghost use Rattle.std.specs.Prelude.{◌≡◌, IfOk, OnErr, ℕ, slice_index};
-ghost use Rattle.dream_words.specs.Registers.{reg_of, with_reg};
 ghost use Rattle.dream_words.specs.declared.machine.Name.{Name};
 ghost use Rattle.run_parts.specs.World.{with_name};
-ghost use Rattle.c_syntax.specs.Env.{flag_word, with_flag, with_local, names_of};
+ghost use Rattle.c_run.specs.Env.{flag_word, with_flag, with_local, names_of};
 
 use dream_words::{Name, Regs};
 use sqlite_items::Items;
@@ -13,7 +12,7 @@ use std::alloc::AllocError;
 /// The carry, parity, zero, sign and overflow flag as words. They are 0 or 1 until a statement sets
 /// them to another word.
 #[derive(Clone, Copy)]
-pub struct FlagWords {
+pub(crate) struct FlagWords {
     pub c: u32,
     pub p: u32,
     pub z: u32,
@@ -23,7 +22,7 @@ pub struct FlagWords {
 
 /// The word of each name. A local past the end of its list is 0.
 #[derive(Drop)]
-pub struct Env {
+pub(crate) struct Env {
     pub regs: Regs,
     pub flags: FlagWords,
     /// The base of the segment FS.
@@ -63,38 +62,6 @@ impl FlagWords {
     }
 }
 
-fn reg(r: &Regs, n: u8) -> u32
-    ensures { result ≡ reg_of r.now n }
-{
-    match n {
-        0 => r.eax,
-        1 => r.ecx,
-        2 => r.edx,
-        3 => r.ebx,
-        4 => r.esp,
-        5 => r.ebp,
-        6 => r.esi,
-        7 => r.edi,
-        _ => 0,
-    }
-}
-
-fn set_reg(r: &mut Regs, n: u8, x: u32)
-    ensures { r.new ≡ with_reg r.old n x }
-{
-    match n {
-        0 => r.eax = x,
-        1 => r.ecx = x,
-        2 => r.edx = x,
-        3 => r.ebx = x,
-        4 => r.esp = x,
-        5 => r.ebp = x,
-        6 => r.esi = x,
-        7 => r.edi = x,
-        _ => {}
-    }
-}
-
 fn local(words: &Items<u32>, n: u32) -> u32
     ensures { result ≡ slice_index words.now n }
 {
@@ -103,7 +70,8 @@ fn local(words: &Items<u32>, n: u32) -> u32
 
 /// Sets a local. Its list grows by zeros as far as it has to.
 fn set_local(words: &mut Items<u32>, n: u32, x: u32) -> Result<(), AllocError>
-    ensures ok { IfOk result (λ _. (k : ℕ) → slice_index words.new k ≡ with_local (λ k. slice_index words.old k) n x k) }
+    ensures ok { IfOk result (λ _.
+        (k : ℕ) → slice_index words.new k ≡ with_local (λ k. slice_index words.old k) n x k) }
     ensures err { OnErr result ((k : ℕ) → slice_index words.new k ≡ slice_index words.old k) }
 {
     let n = n as usize;
@@ -116,11 +84,11 @@ fn set_local(words: &mut Items<u32>, n: u32, x: u32) -> Result<(), AllocError>
 
 impl Env {
     /// The word of a name.
-    pub fn get(&self, n: Name) -> u32
+    pub(crate) fn get(&self, n: Name) -> u32
         ensures { result ≡ names_of self.now n }
     {
         match n {
-            Name::Reg(n) => reg(&self.regs, n),
+            Name::Reg(n) => self.regs.get(n),
             Name::Flag(n) => self.flags.get(n),
             Name::Fs => self.fs,
             Name::Gs => self.gs,
@@ -131,12 +99,13 @@ impl Env {
     }
 
     /// Sets a name. Where memory is refused, every name keeps its word.
-    pub fn set(&mut self, n: Name, x: u32) -> Result<(), AllocError>
-        ensures ok { IfOk result (λ _. (k : Name) → names_of self.new k ≡ with_name (names_of self.old) n x k) }
+    pub(crate) fn set(&mut self, n: Name, x: u32) -> Result<(), AllocError>
+        ensures ok { IfOk result (λ _.
+            (k : Name) → names_of self.new k ≡ with_name (names_of self.old) n x k) }
         ensures err { OnErr result ((k : Name) → names_of self.new k ≡ names_of self.old k) }
     {
         match n {
-            Name::Reg(n) => set_reg(&mut self.regs, n, x),
+            Name::Reg(n) => self.regs.set(n, x),
             Name::Flag(n) => self.flags.set(n, x),
             Name::Fs => self.fs = x,
             Name::Gs => self.gs = x,

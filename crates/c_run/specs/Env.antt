@@ -3,8 +3,8 @@ use Rattle.std.specs.Prelude.{ℕ, nat_eq, if◌then◌else◌, slice_index}
 use Rattle.dream_words.specs.declared.machine.Name.TheVariants.{Reg, Flag, Fs, Gs, T, B, S}
 use Rattle.dream_words.specs.Registers.{reg_of}
 use Rattle.run_parts.specs.World.{Names}
-use Rattle.c_syntax.specs.declared.env.FlagWords.{FlagWords}
-use Rattle.c_syntax.specs.declared.env.Env.{Env}
+use Rattle.c_run.specs.declared.env.FlagWords.{FlagWords}
+use Rattle.c_run.specs.declared.env.Env.{Env}
 
 -- the flag of a number; one that doesn't exist is 0
 abbrev pub flag_word : FlagWords → ℕ → ℕ

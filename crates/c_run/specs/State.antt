@@ -1,0 +1,73 @@
+-- The state that the code keeps of a run, read as a world, and where a part of the code's run leads.
+use Rattle.std.specs.Prelude.{◌≡◌, ℕ, Option, Some, None, List, length, drop}
+use Rattle.dream_words.specs.declared.machine.Flags.{Flags}
+use Rattle.dream_words.specs.declared.outcome.Answer.{Answer}
+use Rattle.dream_words.specs.declared.outcome.Outcome.{Outcome}
+use Rattle.dream_words.specs.declared.outcome.Outcome.TheVariants as outcome
+use Rattle.dream_words.specs.Registers.{word_of_bit}
+use Rattle.run_parts.specs.Parts.{Run as AnyRun, Ends, Goes, Past, Broke, Over, Stuck, always, repeat}
+use Rattle.run_parts.specs.Steps.{done}
+use Rattle.run_parts.specs.World.{World, returned}
+use Rattle.run_parts.specs.Effects.{Doing}
+use Rattle.c_syntax.specs.declared.syntax.CCond.{CCond}
+use Rattle.c_syntax.specs.declared.syntax.CStmt.{CStmt}
+use Rattle.c_run.specs.declared.env.FlagWords.{FlagWords}
+use Rattle.c_run.specs.declared.state.End.{End}
+use Rattle.c_run.specs.declared.state.End.TheVariants as end
+use Rattle.c_run.specs.declared.state.Flow.{Flow}
+use Rattle.c_run.specs.declared.state.Flow.TheVariants as flow
+use Rattle.c_run.specs.declared.state.State.{State}
+use Rattle.c_run.specs.Env.{names_of}
+use Rattle.c_syntax.specs.Run.{Part, Test, holds, run_all}
+
+-- flags as words
+abbrev pub flag_words : Flags → FlagWords
+flag_words f = record { c = word_of_bit f.c; p = word_of_bit f.p; z = word_of_bit f.z; s = word_of_bit f.s; o = word_of_bit f.o }
+
+-- The world that a state stands for. The answers that are left are those after the calls so far.
+abbrev pub world_of : List Answer → State → World
+world_of answers s = record { names = names_of s.env; mem = s.mem; left = drop (length s.calls) answers; calls = s.calls }
+
+-- a run of a part, in a world
+abbrev pub Run : Type 0
+Run = AnyRun World Outcome
+
+-- the end of the whole run
+abbrev pub ends_at : End → ℕ → World → Run
+ends_at end.Returned m w = Ends (Over (returned w)) m
+ends_at (end.Faulted v) m w = Ends (Over (outcome.Faulted v w.mem w.calls)) m
+ends_at end.Asking m w = Ends (Over (outcome.Asking w.calls)) m
+ends_at end.Stuck m w = Ends Stuck m
+ends_at end.Going m w = Goes w
+
+-- where a part leads, with m turns left
+abbrev pub leads : Flow → ℕ → World → Run
+leads flow.Next m w = Ends (Past w) m
+leads flow.Left m w = Ends (Broke w) m
+leads (flow.Ends e) m w = ends_at e m w
+
+-- What the code did is what a part does in so many turns: it leads there, with as many turns left, to the new state's world.
+abbrev pub Does : Part → List Answer → ℕ → State → Flow → ℕ → State → Type 0
+Does part answers turns old f left new = leads f left (world_of answers new) ≡ part turns (world_of answers old)
+
+-- What the code did is what a simple statement does, whatever the turns.
+abbrev pub DoesSimply : (World → Doing) → List Answer → State → Flow → State → Type 0
+DoesSimply effect answers old f new = (m : ℕ) → leads f m (world_of answers new) ≡ done (effect (world_of answers old)) m
+
+-- where an arm or a group leads, or the last part where none was taken
+abbrev pub leads_or : Option Flow → Part → Part
+leads_or None last m w = last m w
+leads_or (Some f) last m w = leads f m w
+
+-- What the code did is what a choice of parts does, whatever its last part.
+abbrev pub DoesOr : (Part → Part) → List Answer → ℕ → State → Option Flow → ℕ → State → Type 0
+DoesOr choice answers turns old o left new = (last : Part) → leads_or o last left (world_of answers new) ≡ choice last turns (world_of answers old)
+
+-- the test of a loop; one that is absent holds
+abbrev pub test_of : Option CCond → Test
+test_of None = always
+test_of (Some t) = holds t
+
+-- a loop with a test before its body and a test after it, each of which may be absent
+abbrev pub loop_of : Option CCond → List CStmt → Option CCond → Part
+loop_of enter body again = repeat (test_of enter) (run_all body) (test_of again)

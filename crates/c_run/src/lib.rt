@@ -1,0 +1,13 @@
+//! The run of a C function.
+//! Given: a function of the C profile, a start, the answers to its calls, and a bound on loop turns.
+//! Promises: the outcome that the function means, or that memory was refused.
+#![tactic(auto)]
+
+mod env;
+mod run;
+mod state;
+#[cfg(test)]
+mod tests;
+mod value;
+
+pub use run::run_c;

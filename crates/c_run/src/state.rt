@@ -1,0 +1,215 @@
+//! The state of a run, and what each simple statement does to it.
+
+ghost use Rattle.std.specs.Prelude.{◌≡◌, ℕ, IfOk, List};
+ghost use Rattle.dream_words.specs.declared.outcome.Answer.{Answer};
+ghost use Rattle.dream_words.specs.Registers.{word_of_bit};
+ghost use Rattle.run_parts.specs.Parts.{on, caught};
+ghost use Rattle.run_parts.specs.World.{World, start_world, outcome_of};
+ghost use Rattle.run_parts.specs.Effects.{set_word, calling};
+ghost use Rattle.c_syntax.specs.Run.{does_set, does_load, does_store, does_ext, does_trap};
+ghost use Rattle.c_run.specs.State.{flag_words, world_of, leads, DoesSimply};
+
+use crate::env::{Env, FlagWords};
+use crate::value::value;
+use c_syntax::CExpr;
+use dream_words::{Answer, Bit, Call, Flags, Memory, Name, Outcome, Start, Width};
+use sqlite_items::Items;
+use std::alloc::{AllocError, Global};
+
+/// Where a run stands: what the names stand for, the memory, and the calls so far.
+#[derive(Drop)]
+pub(crate) struct State {
+    pub env: Env,
+    pub mem: Memory,
+    pub calls: Items<Call>,
+}
+
+/// How a whole run ends, or that it needs one more turn.
+#[derive(Clone, Copy)]
+pub(crate) enum End {
+    Returned,
+    /// By the fault of a vector.
+    Faulted(u32),
+    Asking,
+    Stuck,
+    Going,
+}
+
+/// Where a part of a run leads.
+#[derive(Clone, Copy)]
+pub(crate) enum Flow {
+    /// To what follows the part.
+    Next,
+    /// Out of the nearest loop or switch.
+    Left,
+    /// To the end of the whole run.
+    Ends(End),
+}
+
+impl Flow {
+    /// Where a switch leads whose body leads there.
+    pub(crate) fn caught(self) -> Flow
+        ensures { (m : ℕ) (w : World) → leads result m w ≡ on (leads self m w) caught }
+    {
+        match self {
+            Flow::Next => Flow::Next,
+            Flow::Left => Flow::Next,
+            Flow::Ends(end) => Flow::Ends(end),
+        }
+    }
+}
+
+fn bit_word(b: Bit) -> u32
+    ensures { result ≡ word_of_bit b }
+{
+    match b {
+        Bit::Zero => 0,
+        Bit::One => 1,
+        Bit::Undefined => 0,
+    }
+}
+
+fn flag_words(f: &Flags) -> FlagWords
+    ensures { result ≡ flag_words f.now }
+{
+    FlagWords {
+        c: bit_word(f.c),
+        p: bit_word(f.p),
+        z: bit_word(f.z),
+        s: bit_word(f.s),
+        o: bit_word(f.o),
+    }
+}
+
+impl State {
+    /// Where a run begins.
+    pub(crate) fn new(alloc: Global, start: &Start) -> Result<State, AllocError>
+        ensures { IfOk result (λ s.
+            (answers : List Answer) → world_of answers s ≡ start_world start.now answers) }
+    {
+        let mem = start.mem.copy()?;
+        Ok(State {
+            env: Env {
+                regs: start.regs,
+                flags: flag_words(&start.flags),
+                fs: start.fs,
+                gs: start.gs,
+                temps: Items::new(alloc),
+                bools: Items::new(alloc),
+                selectors: Items::new(alloc),
+            },
+            mem,
+            calls: Items::new(alloc),
+        })
+    }
+
+    /// A name is set to a word.
+    fn assign(&mut self, n: Name, x: u32) -> Result<(), AllocError>
+        ensures { IfOk result (λ _.
+            (answers : List Answer) → world_of answers self.new
+            ≡ set_word n x (world_of answers self.old)) }
+    {
+        self.env.set(n, x)
+    }
+
+    /// `n = a;`
+    pub(crate) fn set(&mut self, n: Name, a: &CExpr) -> Result<Flow, AllocError>
+        ensures { IfOk result (λ flow.
+            (answers : List Answer) → DoesSimply (does_set n a.now) answers self.old flow self.new) }
+    {
+        let Some(x) = value(a, &self.env) else {
+            return Ok(Flow::Ends(End::Stuck));
+        };
+        self.assign(n, x)?;
+        Ok(Flow::Next)
+    }
+
+    /// `n = ld4(a);`
+    pub(crate) fn load(&mut self, n: Name, width: Width, a: &CExpr) -> Result<Flow, AllocError>
+        ensures { IfOk result (λ flow.
+            (answers : List Answer) → DoesSimply (does_load n width a.now) answers self.old flow self.new) }
+    {
+        let Some(at) = value(a, &self.env) else {
+            return Ok(Flow::Ends(End::Stuck));
+        };
+        let x = self.mem.load(at, width);
+        self.assign(n, x)?;
+        Ok(Flow::Next)
+    }
+
+    /// `st4(a, b);`
+    pub(crate) fn store(&mut self, width: Width, a: &CExpr, b: &CExpr) -> Result<Flow, AllocError>
+        ensures { IfOk result (λ flow.
+            (answers : List Answer) → DoesSimply (does_store width a.now b.now) answers self.old flow self.new) }
+    {
+        let Some(at) = value(a, &self.env) else {
+            return Ok(Flow::Ends(End::Stuck));
+        };
+        let Some(x) = value(b, &self.env) else {
+            return Ok(Flow::Ends(End::Stuck));
+        };
+        self.mem.store(at, width, x)?;
+        Ok(Flow::Next)
+    }
+
+    /// `ext(a);`
+    pub(crate) fn ext(&mut self, answers: &[Answer], a: &CExpr) -> Result<Flow, AllocError>
+        ensures { IfOk result (λ flow.
+            DoesSimply (does_ext a.now) answers.now self.old flow self.new) }
+    {
+        let Some(target) = value(a, &self.env) else {
+            return Ok(Flow::Ends(End::Stuck));
+        };
+        let flow = self.call(answers, target)?;
+        Ok(flow)
+    }
+
+    /// A call is recorded, and its answer taken where there is one.
+    fn call(&mut self, answers: &[Answer], target: u32) -> Result<Flow, AllocError>
+        ensures { IfOk result (λ flow.
+            DoesSimply (calling target) answers.now self.old flow self.new) }
+    {
+        let k = self.calls.len();
+        let regs = self.env.regs;
+        let mem = self.mem.copy()?;
+        self.calls.push(Call { target, regs, mem })?;
+        match answers.get(k) {
+            None => Ok(Flow::Ends(End::Asking)),
+            Some(a) => {
+                self.env.regs = a.regs;
+                self.env.flags = flag_words(&a.flags);
+                self.mem = a.mem.copy()?;
+                Ok(Flow::Next)
+            }
+        }
+    }
+
+    /// `trap(v, a);`
+    pub(crate) fn trap(&self, vector: u32, a: &CExpr) -> Flow
+        ensures { (answers : List Answer) → DoesSimply (does_trap vector a.now) answers self.now result self.now }
+    {
+        match value(a, &self.env) {
+            None => Flow::Ends(End::Stuck),
+            Some(0) => Flow::Next,
+            Some(_) => Flow::Ends(End::Faulted(vector)),
+        }
+    }
+
+    /// The outcome of a run that led there.
+    pub(crate) fn outcome(self, flow: Flow) -> Outcome
+        ensures { (m : ℕ) (answers : List Answer) → result ≡ outcome_of (leads flow m (world_of answers self)) }
+    {
+        let State { env, mem, calls } = self;
+        match flow {
+            Flow::Next | Flow::Ends(End::Returned) => Outcome::Returned {
+                regs: env.regs,
+                mem,
+                calls,
+            },
+            Flow::Left | Flow::Ends(End::Stuck) => Outcome::Stuck,
+            Flow::Ends(End::Faulted(vector)) => Outcome::Faulted { vector, mem, calls },
+            Flow::Ends(End::Asking) => Outcome::Asking { calls },
+            Flow::Ends(End::Going) => Outcome::Going { calls },
+        }
+    }
+}
