@@ -4,7 +4,7 @@ use Rattle.std.specs.List.{list_any}
 use Rattle.dream_words.specs.declared.machine.Name.{Name}
 use Rattle.dream_words.specs.declared.machine.Width.{Width}
 use Rattle.dream_words.specs.declared.outcome.Outcome.{Outcome}
-use Rattle.run_parts.specs.Parts.{always, after, Run, Ends, Goes, Past, skip, on, decide, first_arm, caught, has, group_of, given, round, turn, repeat}
+use Rattle.run_parts.specs.Parts.{always, after, Run, Ends, Past, skip, on, decide, first_arm, caught, has, group_of, given, round, turn, repeat}
 use Rattle.run_parts.specs.Steps.{done, having}
 use Rattle.run_parts.specs.World.{World}
 use Rattle.run_parts.specs.Effects.{setting, loading, storing}

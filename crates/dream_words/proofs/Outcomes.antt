@@ -3,14 +3,8 @@ use Rattle.std.proofs.Common.{List, [], ◌∷◌, ◌++◌, refl, sym, ◌∙�
 use Rattle.dream_words.specs.declared.outcome.Call.{Call}
 use Rattle.dream_words.specs.declared.outcome.Outcome.{Outcome}
 use Rattle.dream_words.specs.declared.outcome.Outcome.TheVariants.{Returned, Faulted, Asking, Strayed, Undecoded, Stuck, Going}
-use Rattle.dream_words.specs.Memory.{Mem, SameMemory}
+use Rattle.dream_words.proofs.Memories.{SameMemory_sym, SameMemory_trans}
 use Rattle.dream_words.specs.Same.{Same, SameCall, SameCalls, IsEnded, calls_of, AreFront}
-
-pub SameMemory_sym : (m n : Mem) → SameMemory m n → SameMemory n m
-SameMemory_sym m n p = λ a h. sym (p a h)
-
-pub SameMemory_trans : (k m n : Mem) → SameMemory k m → SameMemory m n → SameMemory k n
-SameMemory_trans k m n p q = λ a h. p a h ∙ q a h
 
 pub SameCall_refl : (c : Call) → SameCall c c
 SameCall_refl c = record { target = refl; regs = refl; mem = λ a h. refl }

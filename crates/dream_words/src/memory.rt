@@ -47,6 +47,7 @@ impl Memory {
     {
         tree::byte(&self.bytes, a)
     }
+
     /// The little-endian word at an address, from 1, 2 or 4 bytes; their addresses wrap around.
     pub fn load(&self, a: u32, w: Width) -> u32
         ensures { result ≡ load self.now a (bytes_of w) }

@@ -8,7 +8,7 @@ ghost use Rattle.dream_words.specs.Signed.{differ, signed_by};
 use crate::words::{low, sign};
 
 /// The high half of the signed product.
-#[tactic(auto, using(crate::proofs::Quotients::product_is))]
+#[tactic(auto, using(crate::proofs::Quotients::product_by_distance))]
 pub fn mul_hi_s<const BITS: u32>(a: u32, b: u32) -> u32
     requires { IsSize BITS }
     ensures { result ≡ high_signed_product BITS a b }
@@ -39,7 +39,7 @@ pub fn div_s<const BITS: u32>(hi: u32, lo: u32, d: u32) -> Option<(u32, u32)>
 }
 
 /// How far the low bits, read as a signed number, are from 0.
-#[tactic(auto, using(crate::proofs::Quotients::low_by))]
+#[tactic(auto, using(crate::proofs::Quotients::low_part_by_distance))]
 fn magnitude<const BITS: u32>(v: u32) -> u64
     requires { IsSize BITS }
     ensures value { signed_part BITS v ≡ signed_by (sign_bit BITS v) result }
@@ -55,7 +55,7 @@ fn magnitude<const BITS: u32>(v: u32) -> u64
 }
 
 /// How far two words as one number of twice the size, read as a signed number, are from 0.
-#[tactic(auto, using(crate::proofs::Quotients::wide_by))]
+#[tactic(auto, using(crate::proofs::Quotients::wide_number_by_distance))]
 fn wide_magnitude<const BITS: u32>(hi: u32, lo: u32) -> u128
     requires { IsSize BITS }
     ensures value { signed_part (BITS + BITS) (wide_number BITS hi lo) ≡ signed_by (sign_bit BITS hi) result }
@@ -81,7 +81,7 @@ fn fits<const BITS: u32>(negative: bool, distance: u128) -> bool
 }
 
 /// How far a number is above the next multiple of the modulus that isn't above it.
-#[tactic(auto, using(crate::proofs::Quotients::rest_is))]
+#[tactic(auto, using(crate::proofs::Quotients::remainder_by_distance))]
 fn above_multiple(modulus: u128, negative: bool, distance: u128) -> u128
     requires { 0 < modulus }
     ensures value { result ≡ unsigned_abs (int_rem_euclid (signed_by negative distance) (pos modulus)) }

@@ -44,7 +44,7 @@ pub fn carry_add<const BITS: u32>(a: u32, b: u32, c: bool) -> bool
 }
 
 /// The signed overflow of a sum, with the carry that comes in.
-#[tactic(auto, using(crate::proofs::Signs::over_add_is))]
+#[tactic(auto, using(crate::proofs::Overflows::sum_overflows_by_bits))]
 pub fn over_add<const BITS: u32>(a: u32, b: u32, c: bool) -> bool
     requires { IsSize BITS }
     ensures { result ≡ sum_overflows BITS a b c }
@@ -62,7 +62,7 @@ pub fn borrow<const BITS: u32>(a: u32, b: u32, c: bool) -> bool
 }
 
 /// The signed overflow of a difference, with the borrow that comes in.
-#[tactic(auto, using(crate::proofs::Differences::over_sub_is))]
+#[tactic(auto, using(crate::proofs::Overflows::difference_overflows_by_bits))]
 pub fn over_sub<const BITS: u32>(a: u32, b: u32, c: bool) -> bool
     requires { IsSize BITS }
     ensures { result ≡ difference_overflows BITS a b c }

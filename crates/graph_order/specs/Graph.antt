@@ -40,5 +40,5 @@ abbrev pub IsReached : Digraph → ℕ → Type 0
 IsReached g n = Walk g g.entry n
 
 -- a list of marks has true at a place
-abbrev pub Marked : List Bool → ℕ → Type 0
-Marked marks n = slice_index_or marks n false ≡ true
+abbrev pub IsMarked : List Bool → ℕ → Type 0
+IsMarked marks n = slice_index_or marks n false ≡ true

@@ -1,6 +1,6 @@
 //! Worked graphs, and large ones.
 
-ghost use Rattle.std.specs.Prelude.{◌≡◌, ℕ, ◌<◌, length, IfOk};
+ghost use Rattle.std.specs.Prelude.{◌≡◌, ◌^◌, ◌<◌, length, IfOk};
 
 use crate::{Graph, GraphFault, NodeId, reach};
 use std::alloc::{AllocError, Global};
@@ -31,6 +31,22 @@ fn circle(alloc: Global, count: u32, places: &[u32]) -> Result<Vec<Vec<NodeId>>,
         let mut nodes = Vec::new(alloc);
         for place in places {
             nodes.push(NodeId(k.wrapping_add(*place) % count))?;
+        }
+        made.push(nodes)?;
+    }
+    Ok(made)
+}
+
+/// From each node but the last an edge to the next.
+fn line(alloc: Global, count: u32) -> Result<Vec<Vec<NodeId>>, AllocError>
+    requires { count < 2 ^ 30 }
+    ensures { IfOk result (λ made. length made.items ≡ count) }
+{
+    let mut made = Vec::new(alloc);
+    for k in 0..count {
+        let mut nodes = Vec::new(alloc);
+        if k + 1 < count {
+            nodes.push(NodeId(k + 1))?;
         }
         made.push(nodes)?;
     }
@@ -84,6 +100,17 @@ fn large_graphs(rt: HostRuntime) -> Result<(), Fail> {
     assert_eq!(rt;
         reach(alloc, &graph)?.iter().filter(|r| **r).count(),
         32_768
+    );
+    Ok(())
+}
+
+#[test]
+fn a_line_from_its_tenth_node(rt: HostRuntime) -> Result<(), Fail> {
+    let alloc = rt.alloc();
+    let graph = Graph::new(alloc, NodeId(9), line(alloc, 65_536)?).map_err(|_| "no graph")?;
+    assert_eq!(rt;
+        reach(alloc, &graph)?.iter().filter(|r| **r).count(),
+        65_527
     );
     Ok(())
 }

@@ -1,7 +1,7 @@
 //! Which nodes the entry reaches.
 
 ghost use Rattle.std.specs.Prelude.{◌≡◌, ℕ, ◌<◌, ◌↔◌, All, length, IfOk, OnOk};
-ghost use Rattle.graph_order.specs.Graph.{IsReached, Marked};
+ghost use Rattle.graph_order.specs.Graph.{IsReached, IsMarked};
 ghost use Rattle.graph_order.specs.Marks.{Visits};
 
 use crate::graph::{Graph, NodeId};
@@ -10,7 +10,7 @@ use std::alloc::{AllocError, Global};
 /// For each node in turn, whether the entry reaches it.
 pub fn reach(alloc: Global, g: &Graph) -> Result<Vec<bool>, AllocError>
     ensures len { IfOk result (λ reached. length reached.items ≡ length g.now.succ) }
-    ensures exact { IfOk result (λ reached. (n : ℕ) → (Marked reached.items n ↔ IsReached g.now n)) }
+    ensures exact { IfOk result (λ reached. (n : ℕ) → (IsMarked reached.items n ↔ IsReached g.now n)) }
 {
     let entry = g.entry();
     let mut reached = vec![in alloc; false; g.count() as usize]?;

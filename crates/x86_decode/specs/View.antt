@@ -36,6 +36,7 @@ use Rattle.x86_decode.specs.declared.forms.Form.{Form}
 use Rattle.x86_decode.specs.declared.forms.Form.TheVariants as form
 use Rattle.x86_decode.specs.declared.rows.Row.{Row}
 
+-- the decoder's parts as those of the table
 abbrev pub prefixes_of : Prefixes → spec.Prefixes
 prefixes_of p = record { size = p.size; segment = p.segment; repeat = p.repeat }
 
@@ -88,6 +89,7 @@ operand_of source.Accumulator s f = accumulator
 operand_of (source.Imm k) s f = operand.Imm (number_of k s f.imm)
 operand_of source.Offset s f = O f
 
+-- how far a shift goes
 abbrev pub count_of : Shifted → spec.Fields → Count
 count_of ByOne f = count.One
 count_of ByImm f = byte_count f
@@ -156,6 +158,7 @@ inst_of (form.MovxHalf signed) f = Movx signed H W f.reg f.rm
 inst_of (form.Scan up) f = Scan up f.size f.reg f.rm (up && is_some f.repeat)
 inst_of form.Bswap f = Bswap f.low
 
+-- the decoder's row as a row of the opcode table
 abbrev pub row_of : Row → spec.Row
 row_of r = record {
   escape = r.escape;
@@ -179,6 +182,7 @@ place_in first step count op =
 abbrev pub place : spec.Row → ℕ → Option ℕ
 place r op = place_in r.first r.step r.count op
 
+-- both or neither
 abbrev pub same_bool : Bool → Bool → Bool
 same_bool true b = b
 same_bool false true = false
@@ -188,6 +192,7 @@ same_bool false false = true
 abbrev pub opens : spec.Prefixes → Bool → ℕ → spec.Row → Bool
 opens p escape op r = same_bool r.escape escape && (is_some (place r op) && allows r p)
 
+-- the row has ModRM, and takes the byte
 abbrev pub takes_modrm : Option spec.Mode → ℕ → Bool
 takes_modrm None m = false
 takes_modrm (Some k) m = spec.takes k m

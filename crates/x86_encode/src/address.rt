@@ -97,7 +97,7 @@ impl Code {
     }
 
     /// The bytes of an r/m operand. None where it isn't one, or a field doesn't fit.
-    pub fn with_rm(self, reg: u8, operand: Operand) -> Option<Code>
+    pub(crate) fn with_rm(self, reg: u8, operand: Operand) -> Option<Code>
         requires { self.len < 10 }
         ensures value { IfSome result (λ c. bytes_of c ≡ with_rm (bytes_of self) reg operand) }
         ensures len { IfSome result (λ c. c.len ≤ self.len + 6) }

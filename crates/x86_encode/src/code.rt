@@ -13,7 +13,7 @@ pub struct Code {
 
 impl Code {
     /// No byte.
-    pub fn empty() -> Code
+    pub(crate) fn empty() -> Code
         ensures bytes { bytes_of result ≡ [] }
         ensures len { result.len ≡ 0 }
     {
@@ -24,7 +24,7 @@ impl Code {
     }
 
     /// One more byte.
-    pub fn with(self, byte: u8) -> Code
+    pub(crate) fn with(self, byte: u8) -> Code
         requires { self.len < 15 }
         ensures bytes { bytes_of result ≡ bytes_of self ++ byte ∷ [] }
         ensures len { result.len ≡ self.len + 1 }
@@ -38,7 +38,7 @@ impl Code {
     }
 
     /// One more byte, where there is one.
-    pub fn with_some(self, byte: Option<u8>) -> Code
+    pub(crate) fn with_some(self, byte: Option<u8>) -> Code
         requires { self.len < 15 }
         ensures bytes { bytes_of result ≡ bytes_of self ++ option_to_list byte }
         ensures len { result.len ≤ self.len + 1 }
@@ -50,7 +50,7 @@ impl Code {
     }
 
     /// Two more bytes.
-    pub fn with_two(self, first: u8, second: u8) -> Code
+    pub(crate) fn with_two(self, first: u8, second: u8) -> Code
         requires { self.len < 14 }
         ensures bytes { bytes_of result ≡ bytes_of self ++ first ∷ second ∷ [] }
         ensures len { result.len ≡ self.len + 2 }
@@ -59,7 +59,7 @@ impl Code {
     }
 
     /// A number of four bytes, the low byte first.
-    pub fn with_word(self, n: u32) -> Code
+    pub(crate) fn with_word(self, n: u32) -> Code
         requires { self.len < 12 }
         ensures bytes { bytes_of result ≡ bytes_of self ++ four_bytes n }
         ensures len { result.len ≡ self.len + 4 }
@@ -69,7 +69,7 @@ impl Code {
     }
 
     /// The displacement of a mod: one byte for 1, four for 2, and else none.
-    pub fn with_displacement(self, md: u8, disp: u32) -> Code
+    pub(crate) fn with_displacement(self, md: u8, disp: u32) -> Code
         requires { self.len < 12 }
         ensures bytes { bytes_of result ≡ with_displacement (bytes_of self) md disp }
         ensures len { result.len ≤ self.len + 4 }
@@ -82,7 +82,7 @@ impl Code {
     }
 
     /// An immediate of no, one, two or four bytes.
-    pub fn with_immediate(self, width: usize, n: u32) -> Code
+    pub(crate) fn with_immediate(self, width: usize, n: u32) -> Code
         requires { self.len < 12 }
         ensures bytes { bytes_of result ≡ with_immediate (bytes_of self) width n }
         ensures len { result.len ≤ self.len + 4 }

@@ -1,4 +1,4 @@
--- What a row of the opcode table says.
+-- What a row of the opcode table says: columns as in the instruction pages of the SDM. (Intel SDM vol. 2, 3.1.1.)
 use Rattle.std.specs.Prelude.{ℕ, ◌+◌, ◌/◌, ◌%◌, Bool, true, false, ◌||◌, ◌==◌, nat_lt, nat_le, if◌then◌else◌, Option, Some, None}
 use Rattle.x86_inst.specs.declared.Inst.{Inst}
 use Rattle.x86_inst.specs.declared.Size.{Size}
@@ -31,6 +31,7 @@ pub data Repeats : Type 0 where
   F2F3Allowed : Repeats
   F3Needed : Repeats
 
+-- whether a repeat prefix, if there is one, may stand
 abbrev pub allows_repeat : Repeats → Option ℕ → Bool
 allows_repeat Never None = true
 allows_repeat Never (Some b) = false
@@ -51,6 +52,7 @@ pub data Mode : Type 0 where
   ShiftDigit : Mode
   Exactly : ℕ → Mode
 
+-- whether the row takes the ModRM byte; its reg field is the three bits in the middle
 abbrev pub takes : Mode → ℕ → Bool
 takes AnyModRm m = true
 takes MemoryOnly m = nat_lt m 192
@@ -68,6 +70,7 @@ pub data Width : Type 0 where
   ImmV : Width
   Imm32 : Width
 
+-- in bytes
 abbrev pub width : Width → Size → ℕ
 width NoImm s = 0
 width Imm8 s = 1
@@ -101,7 +104,7 @@ pub record Row : Type 0 where
   pub imm : Width
   pub inst : Fields → Inst
 
--- rows of one opcode, without prefixes
+-- a row of one opcode, on which neither 66 nor a repeat stands
 abbrev pub row : ℕ → Option Mode → Width → (Fields → Inst) → Row
 row op modrm imm inst = record { escape = false; first = op; step = 1; count = 1; sized = false; repeats = Never; modrm = modrm; imm = imm; inst = inst }
 
@@ -117,6 +120,7 @@ after_0F r = record r { escape = true }
 abbrev pub sized : Row → Row
 sized r = record r { sized = true }
 
+-- these repeat prefixes may stand
 abbrev pub with_repeats : Repeats → Row → Row
 with_repeats k r = record r { repeats = k }
 

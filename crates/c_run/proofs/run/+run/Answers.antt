@@ -1,9 +1,6 @@
-use Rattle.std.proofs.Common.{rules, ◌≡◌, ℕ, suc, ◌+◌, ◌-◌, ◌<◌, ◌≤◌, Bool, true, false, List, [], ◌∷◌, length, map, drop, Option, Some, None, refl, sym, ap, ◌∙◌, subst, arith, option_copied}
-use Rattle.run_parts.specs.Effects.{setting, loading, storing}
-use Rattle.run_parts.specs.Steps.{done, having}
-use Rattle.run_parts.specs.Parts.{always, round, Ends, Past, Broke, Stuck, on, after, skip, decide, first_arm, group_of, given, caught, has, repeat}
-use Rattle.run_parts.specs.World.{World}
-use Rattle.c_syntax.specs.Run.{Part, Test, run, run_arm, run_group, run_all, word_in, holds}
+use Rattle.std.proofs.Common.{◌+◌, true, false, map, drop, Some, None, refl, sym, ap, ◌∙◌, arith, option_copied}
+use Rattle.run_parts.specs.Parts.{always, round, on, after, first_arm, group_of, given, caught, has, repeat}
+use Rattle.c_syntax.specs.Run.{Part, Test, run, run_arm, run_group, run_all, holds}
 use Rattle.c_run.specs.State.{world_of, leads, leads_or, test_of}
 use Rattle.c_run.proofs.run.+run.Goals as goal
 use Rattle.c_syntax.proofs.Runs.{run_all_is}

@@ -1,6 +1,6 @@
-use Rattle.std.proofs.Common.{◌≡◌, ◌≤◌, ◌+◌, ℕ, map, drop, option_copied}
+use Rattle.std.proofs.Common.{◌≡◌, ◌≤◌, map, drop, option_copied}
 use Rattle.run_parts.specs.Parts.{first_arm, group_of, repeat}
-use Rattle.c_syntax.specs.Run.{Part, run, run_arm, run_group, run_all}
+use Rattle.c_syntax.specs.Run.{Part, run_arm, run_group, run_all}
 use Rattle.c_run.specs.State.{world_of, test_of}
 use Rattle.c_run.proofs.run.+run.Given as goal
 

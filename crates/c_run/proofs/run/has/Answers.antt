@@ -1,4 +1,4 @@
-use Rattle.std.proofs.Common.{◌≡◌, ◌∙◌}
+use Rattle.std.proofs.Common.{◌∙◌}
 use Rattle.c_run.proofs.CodeRuns.{any_has}
 use Rattle.c_run.proofs.run.has.Goals as goal
 

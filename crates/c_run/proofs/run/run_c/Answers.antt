@@ -1,4 +1,4 @@
-use Rattle.std.proofs.Common.{rules, ◌≡◌, sym, ap, ◌∙◌}
+use Rattle.std.proofs.Common.{ap, ◌∙◌}
 use Rattle.run_parts.specs.World.{outcome_of}
 use Rattle.c_syntax.specs.Run.{run_all}
 use Rattle.c_run.specs.State.{world_of}

@@ -1,4 +1,4 @@
-use Rattle.std.proofs.Common.{rules, ◌≡◌, ap, ◌++◌, ◌+◌, ◌∷◌, [], drop, subst}
+use Rattle.std.proofs.Common.{rules, ◌≡◌, ap, ◌+◌, ◌∷◌, drop, subst}
 use Rattle.dream_words.specs.declared.outcome.Call.{Call}
 use Rattle.c_run.proofs.States.{answered_parts, drop_here}
 use Rattle.c_run.proofs.state.State.call.Goals as goal

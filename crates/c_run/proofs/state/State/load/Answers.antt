@@ -1,4 +1,4 @@
-use Rattle.std.proofs.Common.{◌≡◌, ap, sym, ◌∙◌}
+use Rattle.std.proofs.Common.{ap, sym, ◌∙◌}
 use Rattle.run_parts.specs.Parts.{Ends, Past}
 use Rattle.run_parts.specs.Steps.{done, having}
 use Rattle.run_parts.specs.Effects.{set_word, loading}
