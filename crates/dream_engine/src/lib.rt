@@ -5,10 +5,12 @@
 #![tactic(auto)]
 
 mod decompile;
+mod digits;
 mod line;
 mod place;
 mod range_code;
 mod text;
 
 pub use decompile::decompile_one;
+pub use digits::eight_digits;
 pub use place::{Cause, FlowFault, Place};

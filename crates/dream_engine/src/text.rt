@@ -1,12 +1,12 @@
 //! The text of a straight line's C. Only of this stage.
 
-ghost use Rattle.std.specs.Prelude.{◌≡◌, ◌++◌, ◌<◌, ℕ, false, slice_index, string_bytes, IfOk, OnOk};
-ghost use Rattle.std.specs.Fmt.{digit_glyph};
+ghost use Rattle.std.specs.Prelude.{◌≡◌, ◌++◌, string_bytes, IfOk, OnOk};
 ghost use Rattle.dream_words.specs.declared.machine.Name.TheVariants.{Reg};
 ghost use Rattle.c_syntax.specs.Spelling.{name_text, last_digits};
 ghost use Rattle.c_syntax.specs.Text.{canonical_text};
 ghost use Rattle.dream_engine.specs.Line.{form_line, end_lines, function_of, head_of};
 
+use crate::digits::eight_digits;
 use crate::line::{Exit, Line};
 use machine::Form;
 use std::alloc::{AllocError, Global};
@@ -26,42 +26,6 @@ fn register_name(register: u8) -> &'static str
         7 => "edi",
         _ => "eax",
     }
-}
-
-fn glyph(digit: u32) -> u8
-    requires { digit < 16 }
-    ensures value { result ≡ digit_glyph false digit }
-    ensures ascii { result < 128 }
-{
-    if digit < 10 {
-        48 + digit as u8
-    } else {
-        87 + digit as u8
-    }
-}
-
-/// A number in eight hexadecimal digits.
-pub fn eight_digits(n: u32) -> [u8; 8]
-    ensures value { result ≡ last_digits 8 n }
-    ensures ascii { (k : ℕ) → slice_index result k < 128 }
-{
-    let a = n / 16;
-    let b = a / 16;
-    let c = b / 16;
-    let d = c / 16;
-    let e = d / 16;
-    let f = e / 16;
-    let g = f / 16;
-    [
-        glyph(g % 16),
-        glyph(f % 16),
-        glyph(e % 16),
-        glyph(d % 16),
-        glyph(c % 16),
-        glyph(b % 16),
-        glyph(a % 16),
-        glyph(n % 16),
-    ]
 }
 
 fn push_digits(text: &mut String, n: u32) -> Result<(), AllocError>

@@ -1,15 +1,13 @@
 //! The note of a status.
 
-ghost use Rattle.std.specs.Prelude.{◌≡◌, ◌<◌, false};
+ghost use Rattle.std.specs.Prelude.{◌≡◌};
 ghost use Rattle.std.specs.List.{flat_map};
-ghost use Rattle.std.specs.Fmt.{digit_glyph};
-ghost use Rattle.c_syntax.specs.Spelling.{last_digits};
 ghost use Rattle.dream_top.specs.Answers.{writing_of, Tells};
 ghost use Rattle.dream_top.specs.Notes.{kind_name as name_of_kind, cause_name as name_of_cause, note_of};
 
 use crate::status::Status;
 use crate::writing::{put_all, put_pieces};
-use dream_engine::{Cause, Place};
+use dream_engine::{Cause, Place, eight_digits};
 use dream_outside::Sink;
 use elf_image::ElfFault;
 use itoa::Buffer;
@@ -52,34 +50,6 @@ fn cause_name(cause: Cause) -> &'static str
         Cause::RangeTooLarge => "RangeTooLarge",
         Cause::RangeUnbacked => "RangeUnbacked",
     }
-}
-
-// A hexadecimal digit.
-fn glyph(digit: u32) -> u8
-    requires { digit < 16 }
-    ensures { result ≡ digit_glyph false digit }
-{
-    if digit < 10 {
-        b'0' + digit as u8
-    } else {
-        b'a' + (digit - 10) as u8
-    }
-}
-
-// A number in eight hexadecimal digits.
-fn eight_digits(n: u32) -> [u8; 8]
-    ensures { result ≡ last_digits 8 n }
-{
-    [
-        glyph(n / 0x1000_0000 % 16),
-        glyph(n / 0x100_0000 % 16),
-        glyph(n / 0x10_0000 % 16),
-        glyph(n / 0x1_0000 % 16),
-        glyph(n / 0x1000 % 16),
-        glyph(n / 0x100 % 16),
-        glyph(n / 0x10 % 16),
-        glyph(n % 16),
-    ]
 }
 
 // Tells a line of one piece. A fault of the stream is passed over.

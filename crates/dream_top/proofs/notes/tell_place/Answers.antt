@@ -12,4 +12,4 @@ returns g c =
     let told : Tells o (codes "dream: outside the profile: " ++ c.as_bytes.result.now ++ codes " at 0x" ++ c.eight_digits.result ++ codes "\n") =
     subst (λ t. Tells o t) (regrouped (codes "dream: outside the profile: ") c.as_bytes.result.now (codes " at 0x") c.eight_digits.result (codes "\n"))
     (tells o _ c.put_pieces.result c.put_pieces.ensures.ok c.put_pieces.ensures.err) in
-    rw (cause, c.eight_digits.ensures) at told
+    rw (cause, c.eight_digits.ensures.value) at told
