@@ -86,17 +86,31 @@ loaded_small : (i : Reading) (path bytes : List ℕ) (P : List ℕ → Type 0) �
 loaded_small i path bytes P at l = held_is i.held path bytes (λ all. (length all ≤ limit) × P all) at l.held
 
 long_or_memory : (i : Reading) (o : Writing) (c : Command) (bytes : List ℕ) (s : Status) → HoldsAt i.held c.path bytes → limit < length bytes
-    → HasNoFault i o → AnswersCommand s i o c → (s ≡ FileTooLarge) ⊎ (s ≡ NoMemory)
+    → (Rose i.faults i.faults_now → ⊥) → AnswersCommand s i o c → (s ≡ FileTooLarge) ⊎ (s ≡ NoMemory)
 long_or_memory i o c bytes FileTooLarge at long quiet a = inl refl
 long_or_memory i o c bytes NoMemory at long quiet a = inr refl
 long_or_memory i o c bytes Done at long quiet a = let small : length bytes ≤ limit = (loaded_small i c.path bytes _ at a.1.1).0 in absurd (omega arith)
-long_or_memory i o c bytes WriteFault at long quiet a = absurd (quiet.out a.2.rose)
-long_or_memory i o c bytes ReadFault at long quiet a = absurd (no_read_fault i c.path bytes at quiet.files a.0)
+long_or_memory i o c bytes WriteFault at long quiet a = let small : length bytes ≤ limit = (loaded_small i c.path bytes _ at a.1.1).0 in absurd (omega arith)
+long_or_memory i o c bytes ReadFault at long quiet a = absurd (no_read_fault i c.path bytes at quiet a.0)
 long_or_memory i o c bytes (NotElf f) at long quiet a = let small : length bytes ≤ limit = (loaded_small i c.path bytes _ at a.0).0 in absurd (omega arith)
 long_or_memory i o c bytes (Outside p) at long quiet a = let small : length bytes ≤ limit = (loaded_small i c.path bytes _ at a.0.1).0 in absurd (omega arith)
 long_or_memory i o c bytes Usage at long quiet a = absurd a.0
 long_or_memory i o c bytes NoFunction at long quiet a = absurd a.0
 long_or_memory i o c bytes (NotProfile k) at long quiet a = absurd a.0
+
+-- after more bytes than the limit no other answer comes
+many_or_memory : (i : Reading) (o : Writing) (c : Command) (s : Status) → i.got ≤ limit → limit < i.got_now → AnswersCommand s i o c
+    → (s ≡ FileTooLarge) ⊎ (s ≡ NoMemory)
+many_or_memory i o c FileTooLarge few many a = inl refl
+many_or_memory i o c NoMemory few many a = inr refl
+many_or_memory i o c Done few many a = let small : i.got_now ≤ limit = a.1.1.got in absurd (omega arith)
+many_or_memory i o c WriteFault few many a = let small : i.got_now ≤ limit = a.1.1.got in absurd (omega arith)
+many_or_memory i o c ReadFault few many a = let same : i.got_now ≡ i.got = a.0.within many in absurd (omega arith)
+many_or_memory i o c (NotElf f) few many a = let small : i.got_now ≤ limit = a.0.got in absurd (omega arith)
+many_or_memory i o c (Outside p) few many a = let small : i.got_now ≤ limit = a.0.1.got in absurd (omega arith)
+many_or_memory i o c Usage few many a = absurd a.0
+many_or_memory i o c NoFunction few many a = absurd a.0
+many_or_memory i o c (NotProfile k) few many a = absurd a.0
 
 -- a fault is none of an image that was loaded
 not_broken : (i : Reading) (path bytes : List ℕ) (f : ElfFault) (m : List Segment) → HoldsAt i.held path bytes → image_of bytes ≡ Err f
@@ -104,7 +118,7 @@ not_broken : (i : Reading) (path bytes : List ℕ) (f : ElfFault) (m : List Segm
 not_broken i path bytes f m at image l = let e = (loaded_small i path bytes (λ all. image_of all ≡ Ok m) at l).1 in cc
 
 broken_or_memory : (i : Reading) (o : Writing) (c : Command) (bytes : List ℕ) (f : ElfFault) (s : Status) → HoldsAt i.held c.path bytes
-    → length bytes ≤ limit → image_of bytes ≡ Err f → HasNoFault i o → AnswersCommand s i o c → (s ≡ NotElf f) ⊎ (s ≡ NoMemory)
+    → length bytes ≤ limit → image_of bytes ≡ Err f → (Rose i.faults i.faults_now → ⊥) → AnswersCommand s i o c → (s ≡ NotElf f) ⊎ (s ≡ NoMemory)
 broken_or_memory i o c bytes f (NotElf g) at small image quiet a =
     let e = (loaded_small i c.path bytes (λ all. image_of all ≡ Err g) at a.0).1 in
     let same : g ≡ f = cc in
@@ -112,7 +126,7 @@ broken_or_memory i o c bytes f (NotElf g) at small image quiet a =
 broken_or_memory i o c bytes f NoMemory at small image quiet a = inr refl
 broken_or_memory i o c bytes f Done at small image quiet a = absurd (not_broken i c.path bytes f a.1.0 at image a.1.1)
 broken_or_memory i o c bytes f WriteFault at small image quiet a = absurd (not_broken i c.path bytes f a.1.0 at image a.1.1)
-broken_or_memory i o c bytes f ReadFault at small image quiet a = absurd (no_read_fault i c.path bytes at quiet.files a.0)
+broken_or_memory i o c bytes f ReadFault at small image quiet a = absurd (no_read_fault i c.path bytes at quiet a.0)
 broken_or_memory i o c bytes f FileTooLarge at small image quiet a =
     let long : limit < length bytes = held_is i.held c.path bytes (λ all. limit < length all) at a.0.held in absurd (omega arith)
 broken_or_memory i o c bytes f (Outside p) at small image quiet a = absurd (not_broken i c.path bytes f a.0.0 at image a.0.1)
@@ -128,7 +142,7 @@ not_named i c bytes text m p at image named d =
     named_or_none m c.range p named (subst (λ n. HasNoPlace n c.range) e d.2.no_place)
 
 outside_or_memory : (i : Reading) (o : Writing) (c : Command) (bytes : List ℕ) (m : List Segment) (p : Place) (s : Status) → HoldsAt i.held c.path bytes
-    → length bytes ≤ limit → image_of bytes ≡ Ok m → NamedPlace m c.range p → HasNoFault i o → AnswersCommand s i o c
+    → length bytes ≤ limit → image_of bytes ≡ Ok m → NamedPlace m c.range p → (Rose i.faults i.faults_now → ⊥) → AnswersCommand s i o c
     → ((q : Place) × NamedPlace m c.range q × (s ≡ Outside q)) ⊎ (s ≡ NoMemory)
 outside_or_memory i o c bytes m p (Outside q) at small image named quiet a =
     let e : a.0.0 ≡ m = same_image i c.path bytes m a.0.0 at image a.0.1 in
@@ -136,7 +150,7 @@ outside_or_memory i o c bytes m p (Outside q) at small image named quiet a =
 outside_or_memory i o c bytes m p NoMemory at small image named quiet a = inr refl
 outside_or_memory i o c bytes m p Done at small image named quiet a = absurd (not_named i c bytes a.0 m p at image named a.1)
 outside_or_memory i o c bytes m p WriteFault at small image named quiet a = absurd (not_named i c bytes a.0 m p at image named a.1)
-outside_or_memory i o c bytes m p ReadFault at small image named quiet a = absurd (no_read_fault i c.path bytes at quiet.files a.0)
+outside_or_memory i o c bytes m p ReadFault at small image named quiet a = absurd (no_read_fault i c.path bytes at quiet a.0)
 outside_or_memory i o c bytes m p FileTooLarge at small image named quiet a =
     let long : limit < length bytes = held_is i.held c.path bytes (λ all. limit < length all) at a.0.held in absurd (omega arith)
 outside_or_memory i o c bytes m p (NotElf f) at small image named quiet a =
@@ -149,6 +163,7 @@ pub each_cause_has_its_answer : EachCauseHasItsAnswer
 each_cause_has_its_answer = record {
   usage = λ i o s a. a.0;
   unheld = fault_or_memory;
+  too_many = many_or_memory;
   too_large = long_or_memory;
   broken = broken_or_memory;
   outside = λ words i o c bytes m p s accepted named quiet a.

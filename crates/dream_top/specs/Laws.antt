@@ -30,19 +30,22 @@ NoRefusalWithoutCause =
     (words : List (List ℕ)) (i : Reading) (o : Writing) (c : Command) (bytes : List ℕ) (m : List Segment) (s : Status)
     → IsAccepted words i c bytes m → HasNoPlace m c.range → HasNoFault i o → Answers s i o (command_of words) → (s ≡ Done) ⊎ (s ≡ NoMemory)
 
--- Each cause has its answer, unless a count of faults rises or memory runs out.
+-- Each cause has its answer, unless the count of faults of the files rises or memory runs out.
 pub record EachCauseHasItsAnswer : Type 0 where
   -- words that are no command
   pub usage : (i : Reading) (o : Writing) (s : Status) → Answers s i o None → s ≡ Usage
   -- a path that holds nothing
   pub unheld : (i : Reading) (o : Writing) (c : Command) (s : Status) → IsUnheld i.held c.path → Answers s i o (Some c) → (s ≡ ReadFault) ⊎ (s ≡ NoMemory)
+  -- more bytes than the limit that were taken, where the count of bytes was no more than that before the call
+  pub too_many : (i : Reading) (o : Writing) (c : Command) (s : Status) → i.got ≤ limit → limit < i.got_now → Answers s i o (Some c)
+      → (s ≡ FileTooLarge) ⊎ (s ≡ NoMemory)
   -- a file that is longer than the limit
   pub too_large : (i : Reading) (o : Writing) (c : Command) (bytes : List ℕ) (s : Status) → HoldsAt i.held c.path bytes → limit < length bytes
-      → HasNoFault i o → Answers s i o (Some c) → (s ≡ FileTooLarge) ⊎ (s ≡ NoMemory)
+      → (Rose i.faults i.faults_now → ⊥) → Answers s i o (Some c) → (s ≡ FileTooLarge) ⊎ (s ≡ NoMemory)
   -- a file that breaks a rule
   pub broken : (i : Reading) (o : Writing) (c : Command) (bytes : List ℕ) (fault : ElfFault) (s : Status) → HoldsAt i.held c.path bytes
-      → length bytes ≤ limit → image_of bytes ≡ Err fault → HasNoFault i o → Answers s i o (Some c) → (s ≡ NotElf fault) ⊎ (s ≡ NoMemory)
+      → length bytes ≤ limit → image_of bytes ≡ Err fault → (Rose i.faults i.faults_now → ⊥) → Answers s i o (Some c) → (s ≡ NotElf fault) ⊎ (s ≡ NoMemory)
   -- a range with a place outside the profile
   pub outside : (words : List (List ℕ)) (i : Reading) (o : Writing) (c : Command) (bytes : List ℕ) (m : List Segment) (p : Place) (s : Status)
-      → IsAccepted words i c bytes m → NamedPlace m c.range p → HasNoFault i o → Answers s i o (command_of words)
+      → IsAccepted words i c bytes m → NamedPlace m c.range p → (Rose i.faults i.faults_now → ⊥) → Answers s i o (command_of words)
       → ((q : Place) × NamedPlace m c.range q × (s ≡ Outside q)) ⊎ (s ≡ NoMemory)

@@ -9,7 +9,8 @@ pub fn no_refusal_without_cause()
 {}
 
 /// Words that are no command, a path that holds nothing, a file that is too long or that breaks a rule, and a range with
-/// a place outside the profile have their answers, unless a count of faults rises or memory runs out.
+/// a place outside the profile have their answers, unless the count of faults of the files rises or memory runs out.
+/// After more bytes than the limit no fault changes the answer.
 pub fn each_cause_has_its_answer()
     ensures { EachCauseHasItsAnswer }
 {}

@@ -7,17 +7,20 @@ ghost use Rattle.dream_top.specs.Loading.{TakesPiece, StopsPiece, TakesAll, Stop
 use dream_outside::Files;
 use std::alloc::Global;
 
-/// The most bytes that a file may have.
+// The most bytes that a file may have.
 const LIMIT: usize = 67_108_864;
 
-/// How many bytes are taken at once.
+// How many bytes are taken at once.
 const BUFFER: usize = 65_536;
 
 /// Why a file could not be loaded.
 #[derive(Clone, Copy, Drop)]
 pub enum LoadFault {
+    /// It can't be opened, or not be read to its end.
     Fault,
+    /// It has more bytes than a file may have.
     TooLarge,
+    /// There isn't enough memory.
     Memory,
 }
 

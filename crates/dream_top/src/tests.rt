@@ -128,46 +128,52 @@ fn prints_straight_lines(rt: HostRuntime) -> Result<(), Fail> {
 #[test]
 fn names_the_place_outside(rt: HostRuntime) -> Result<(), Fail> {
     let alloc = rt.alloc();
-    let cases = [
+    let cases: [(&[u8], &str, u32, Cause, &str); 6] = [
         (
+            &MOVE,
             "0x08048100+0",
             0x0804_8100,
             Cause::RangeEmpty,
             "dream: outside the profile: RangeEmpty at 0x08048100\n",
         ),
         (
+            &MOVE,
             "0x0804810A+0",
             0x0804_810a,
             Cause::RangeEmpty,
             "dream: outside the profile: RangeEmpty at 0x0804810a\n",
         ),
         (
+            &MOVE[..3],
             "0x08048100+3",
             0x0804_8100,
             Cause::Straddle,
             "dream: outside the profile: Straddle at 0x08048100\n",
         ),
         (
+            &MOVE,
             "0x08049000+4",
             0x0804_9000,
             Cause::RangeUnbacked,
             "dream: outside the profile: RangeUnbacked at 0x08049000\n",
         ),
         (
+            &MOVE,
             "0xffffffff+2",
             0xffff_ffff,
             Cause::RangeUnbacked,
             "dream: outside the profile: RangeUnbacked at 0xffffffff\n",
         ),
         (
+            &MOVE,
             "0x08048100+10001",
             0x0804_8100,
             Cause::RangeTooLarge,
             "dream: outside the profile: RangeTooLarge at 0x08048100\n",
         ),
     ];
-    for (func, at, cause, note) in cases {
-        let ran = decompile(alloc, elf(alloc, &MOVE)?, func)?;
+    for (code, func, at, cause, note) in cases {
+        let ran = decompile(alloc, elf(alloc, code)?, func)?;
         assert!(rt;
             ran.status == Status::Outside(Place { at, cause }),
             "{func}"
