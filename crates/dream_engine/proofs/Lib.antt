@@ -7,3 +7,4 @@ mod LineOfC
 mod LineAgrees
 mod Texts
 mod WellFormed
+pub mod OnePlaces

@@ -1,3 +1,4 @@
 pub mod Place
 pub mod Agreement
 pub mod Line
+pub mod Laws

@@ -6,6 +6,7 @@
 
 mod decompile;
 mod digits;
+mod laws;
 mod line;
 mod place;
 mod range_code;
@@ -13,4 +14,5 @@ mod text;
 
 pub use decompile::decompile_one;
 pub use digits::eight_digits;
+pub use laws::one_place;
 pub use place::{Cause, FlowFault, Place};
