@@ -1,13 +1,13 @@
 -- A range has at most one named place.
-use Rattle.std.proofs.Common.{◌≡◌, ◌⊎◌, inl, inr, ℕ, ◌≤◌, List, Option, Some, None, refl, sym, ◌∙◌, subst, ap, arith}
+use Rattle.std.proofs.Common.{◌≡◌, inl, inr, ℕ, ◌≤◌, List, Option, Some, None, refl, sym, ◌∙◌, subst, ap, arith}
 use Rattle.elf_image.specs.declared.image.Segment.{Segment}
 use Rattle.elf_image.specs.declared.range.Range.{Range}
 use Rattle.elf_image.specs.Range.{bytes_to_end}
-use Rattle.x86_decode.specs.Decodes.{NoneBegins, IsBegun}
+use Rattle.x86_decode.specs.Decodes.{NoneBegins}
 use Rattle.dream_engine.specs.declared.place.Place.{Place}
 use Rattle.dream_engine.specs.declared.place.Cause.{Cause}
 use Rattle.dream_engine.specs.declared.place.Cause.TheVariants.{Instruction, Straddle, IndirectJump, CallInside, RangeEmpty, RangeTooLarge, RangeUnbacked}
-use Rattle.dream_engine.specs.Place.{place_of, HasCause, HasNoMeaning, NamedAfter, NamedPlace, IsLeastPlace, range_place}
+use Rattle.dream_engine.specs.Place.{place_of, HasCause, HasNoMeaning, NamedAfter, IsLeastPlace, range_place}
 use Rattle.dream_engine.specs.Laws.{OnePlace}
 
 -- where an instruction begins, it isn't so that none begins

@@ -7,6 +7,7 @@ use Rattle.elf_image.specs.declared.image.ElfFault.{ElfFault}
 use Rattle.elf_image.specs.declared.range.Range.{Range}
 use Rattle.elf_image.specs.Image.{image_of}
 use Rattle.dream_engine.specs.declared.place.Place.{Place}
+use Rattle.dream_engine.proofs.OnePlaces.{one_place}
 use Rattle.dream_engine.specs.Place.{NamedPlace, NamedAfter, IsLeastPlace, HasNoPlace}
 use Rattle.dream_top.specs.declared.status.Status.{Status}
 use Rattle.dream_top.specs.declared.status.Status.TheVariants.{Done, Usage, ReadFault, WriteFault, NoMemory, NotElf, NoFunction, Outside, FileTooLarge, NotProfile}
@@ -143,10 +144,10 @@ not_named i c bytes text m p at image named d =
 
 outside_or_memory : (i : Reading) (o : Writing) (c : Command) (bytes : List ℕ) (m : List Segment) (p : Place) (s : Status) → HoldsAt i.held c.path bytes
     → length bytes ≤ limit → image_of bytes ≡ Ok m → NamedPlace m c.range p → (Rose i.faults i.faults_now → ⊥) → AnswersCommand s i o c
-    → ((q : Place) × NamedPlace m c.range q × (s ≡ Outside q)) ⊎ (s ≡ NoMemory)
+    → (s ≡ Outside p) ⊎ (s ≡ NoMemory)
 outside_or_memory i o c bytes m p (Outside q) at small image named quiet a =
     let e : a.0.0 ≡ m = same_image i c.path bytes m a.0.0 at image a.0.1 in
-    inl (q, subst (λ n. NamedPlace n c.range q) e a.0.2, refl)
+    inl (ap Outside (one_place m c.range q p (subst (λ n. NamedPlace n c.range q) e a.0.2) named))
 outside_or_memory i o c bytes m p NoMemory at small image named quiet a = inr refl
 outside_or_memory i o c bytes m p Done at small image named quiet a = absurd (not_named i c bytes a.0 m p at image named a.1)
 outside_or_memory i o c bytes m p WriteFault at small image named quiet a = absurd (not_named i c bytes a.0 m p at image named a.1)

@@ -45,7 +45,7 @@ pub record EachCauseHasItsAnswer : Type 0 where
   -- a file that breaks a rule
   pub broken : (i : Reading) (o : Writing) (c : Command) (bytes : List ℕ) (fault : ElfFault) (s : Status) → HoldsAt i.held c.path bytes
       → length bytes ≤ limit → image_of bytes ≡ Err fault → (Rose i.faults i.faults_now → ⊥) → Answers s i o (Some c) → (s ≡ NotElf fault) ⊎ (s ≡ NoMemory)
-  -- a range with a place outside the profile
+  -- a range with a place outside the profile, which is named
   pub outside : (words : List (List ℕ)) (i : Reading) (o : Writing) (c : Command) (bytes : List ℕ) (m : List Segment) (p : Place) (s : Status)
       → IsAccepted words i c bytes m → NamedPlace m c.range p → (Rose i.faults i.faults_now → ⊥) → Answers s i o (command_of words)
-      → ((q : Place) × NamedPlace m c.range q × (s ≡ Outside q)) ⊎ (s ≡ NoMemory)
+      → (s ≡ Outside p) ⊎ (s ≡ NoMemory)
