@@ -1,7 +1,7 @@
 -- Which lists of words are which command. The words are those after the program's name.
-use Rattle.std.specs.Prelude.{ℕ, ◌+◌, ◌-◌, ◌*◌, ◌&&◌, ◌==◌, nat_le, nat_eq, List, [], ◌∷◌, length, drop, Option, Some, None, if◌then◌else◌, codes}
+use Rattle.std.specs.Prelude.{ℕ, ◌+◌, ◌-◌, ◌*◌, ◌&&◌, ◌==◌, nat_le, nat_eq, Bool, false, List, [], ◌∷◌, length, drop, Option, Some, None, if◌then◌else◌, codes}
 use Rattle.std.specs.List.{starts_with, before_first, after_first}
-use Rattle.std.specs.Option.{option_and_then}
+use Rattle.std.specs.Option.{option_and_then, option_map}
 use Rattle.std.specs.Str.{bytes_eq}
 use Rattle.elf_image.specs.declared.range.Range.{Range}
 use Rattle.elf_image.specs.Range.{range}
@@ -57,13 +57,21 @@ asked_by (variant.Decompile f) = Decompile (target f.path.now f.range)
 asked_by variant.Prelude = Prelude
 
 -- PATH is not empty, and FUNC is an address form.
-abbrev pub function_at : List ℕ → Option Range → Option Command
+abbrev pub function_at : List ℕ → Option Range → Option Target
 function_at [] func = None
 function_at (b ∷ bs) None = None
-function_at (b ∷ bs) (Some r) = Some (Decompile (target (b ∷ bs) r))
+function_at (b ∷ bs) (Some r) = Some (target (b ∷ bs) r)
 
--- `decompile PATH FUNC` or `prelude`; every other list of words is no command
+-- `decompile PATH FUNC`
+abbrev pub target_of : List (List ℕ) → Option Target
+target_of (name ∷ path ∷ func ∷ []) = if bytes_eq name (codes "decompile") then function_at path (address_form func) else None
+target_of _ = None
+
+-- `prelude`
+abbrev pub is_prelude : List (List ℕ) → Bool
+is_prelude (name ∷ []) = bytes_eq name (codes "prelude")
+is_prelude _ = false
+
+-- Either of these; every other list of words is no command.
 abbrev pub command_of : List (List ℕ) → Option Command
-command_of (name ∷ path ∷ func ∷ []) = if bytes_eq name (codes "decompile") then function_at path (address_form func) else None
-command_of (name ∷ []) = if bytes_eq name (codes "prelude") then Some Prelude else None
-command_of _ = None
+command_of words = if is_prelude words then Some Prelude else option_map Decompile (target_of words)

@@ -1,7 +1,7 @@
 //! The words of the command line.
 
 ghost use Rattle.std.specs.Prelude.{◌≡◌, ◌<◌, ℕ, map, string_bytes, IfSome, MatchOption};
-ghost use Rattle.dream_top.specs.CommandLine.{hex_digit as hex_digit_of, hex_number as hex_number_of, sum_form as sum_form_of, address_form as address_form_of, command_of, asked_by};
+ghost use Rattle.dream_top.specs.CommandLine.{hex_digit as hex_digit_of, hex_number as hex_number_of, sum_form as sum_form_of, address_form as address_form_of, target_of, target as target_is, is_prelude as asks_for_header, command_of, asked_by};
 
 use elf_image::Range;
 
@@ -63,18 +63,36 @@ fn address_form(func: &str) -> Option<Range>
     sum_form(func.strip_prefix("0x")?)
 }
 
+// The function that the words ask for, if they do.
+fn target_in(words: &[String]) -> Option<Target<'_>>
+    ensures { MatchOption result (target_of (map string_bytes words.now) ≡ None) (λ t. target_of (map string_bytes words.now) ≡ Some (target_is t.path.now t.range)) }
+{
+    match words {
+        [name, path, func] if name.as_str() == "decompile" && !path.is_empty() => Some(Target {
+            path: path.as_str(),
+            range: address_form(func.as_str())?,
+        }),
+        _ => None,
+    }
+}
+
+// Whether the words ask for the header.
+fn is_prelude(words: &[String]) -> bool
+    ensures { result ≡ asks_for_header (map string_bytes words.now) }
+{
+    match words {
+        [name] => name.as_str() == "prelude",
+        _ => false,
+    }
+}
+
 /// The command that the words are, if they are one.
 pub fn command_in(words: &[String]) -> Option<Command<'_>>
     ensures { MatchOption result (command_of (map string_bytes words.now) ≡ None) (λ c. command_of (map string_bytes words.now) ≡ Some (asked_by c)) }
 {
-    match words {
-        [name, path, func] if name.as_str() == "decompile" && !path.is_empty() => {
-            Some(Command::Decompile(Target {
-                path: path.as_str(),
-                range: address_form(func.as_str())?,
-            }))
-        }
-        [name] if name.as_str() == "prelude" => Some(Command::Prelude),
-        _ => None,
+    if is_prelude(words) {
+        Some(Command::Prelude)
+    } else {
+        Some(Command::Decompile(target_in(words)?))
     }
 }

@@ -5,8 +5,7 @@ use Rattle.dream_top.proofs.top.write_function.Goals as goal
 
 pub returns-in-Ok-put_all : goal.returns-in-Ok-put_all
 returns-in-Ok-put_all g c =
-    let sink = g.K.Sink in
-    (
+    let sink = g.K.Sink in (
       c.in-Ok.text.items,
       c.in-Ok.ensures.ok,
       subst (λ t. Appends (sink.taken c.args.out.now) (sink.taken c.put_all.new.sink) t) c.deref.ensures.value c.in-Ok-put_all.ensures.ok,
