@@ -1,6 +1,7 @@
 -- Each answer excludes the causes of the others.
 use Rattle.std.proofs.Common.{◌≡◌, ◌⊎◌, inl, inr, refl, ap, subst, arith, ℕ, ◌<◌, ◌≤◌, List, length, Some, None, Ok, Err}
 use Rattle.std.specs.Option.{IsSomeAnd}
+use Rattle.std.specs.Io.KnownBytes.{Appends}
 use Rattle.dream_outside.specs.Causes.{Store, Rose, IsUnheld, HoldsAt}
 use Rattle.elf_image.specs.declared.image.Segment.{Segment}
 use Rattle.elf_image.specs.declared.image.ElfFault.{ElfFault}
@@ -11,8 +12,9 @@ use Rattle.dream_engine.proofs.OnePlaces.{one_place}
 use Rattle.dream_engine.specs.Place.{NamedPlace, NamedAfter, IsLeastPlace, HasNoPlace}
 use Rattle.dream_top.specs.declared.status.Status.{Status}
 use Rattle.dream_top.specs.declared.status.Status.TheVariants.{Done, Usage, ReadFault, WriteFault, NoMemory, NotElf, NoFunction, Outside, FileTooLarge, NotProfile}
-use Rattle.dream_top.specs.CommandLine.{Command}
-use Rattle.dream_top.specs.Answers.{limit, Reading, Writing, Holds, IsReadFault, Loads, Decompiles, Answers, AnswersCommand}
+use Rattle.dream_top.specs.CommandLine.{Target}
+use Rattle.dream_top.specs.Answers.{limit, Reading, Writing, Holds, IsReadFault, Loads, StopsIn, Decompiles, Answers, AnswersDecompile, Writes}
+use Rattle.dream_top.specs.Header.{header_text}
 use Rattle.dream_top.specs.Laws.{HasNoFault, NoRefusalWithoutCause, EachCauseHasItsAnswer}
 
 -- ---- what is held
@@ -49,8 +51,8 @@ named_or_none m r p named none = let l : IsLeastPlace m r p = subst (λ o. Named
 
 -- ---- the laws
 
-done_or_memory : (s : Status) (i : Reading) (o : Writing) (c : Command) (bytes : List ℕ) (m : List Segment) → HoldsAt i.held c.path bytes → length bytes ≤ limit
-    → image_of bytes ≡ Ok m → HasNoPlace m c.range → HasNoFault i o → AnswersCommand s i o c → (s ≡ Done) ⊎ (s ≡ NoMemory)
+done_or_memory : (s : Status) (i : Reading) (o : Writing) (c : Target) (bytes : List ℕ) (m : List Segment) → HoldsAt i.held c.path bytes → length bytes ≤ limit
+    → image_of bytes ≡ Ok m → HasNoPlace m c.range → HasNoFault i o → AnswersDecompile s i o c → (s ≡ Done) ⊎ (s ≡ NoMemory)
 done_or_memory Done i o c bytes m at small image none quiet a = inl refl
 done_or_memory NoMemory i o c bytes m at small image none quiet a = inr refl
 done_or_memory WriteFault i o c bytes m at small image none quiet a = absurd (quiet.out a.2.rose)
@@ -70,7 +72,7 @@ pub no_refusal_without_cause : NoRefusalWithoutCause
 no_refusal_without_cause words i o c bytes m s accepted none quiet a =
     done_or_memory s i o c bytes m accepted.held accepted.small accepted.image none quiet (subst (λ asked. Answers s i o asked) accepted.command a)
 
-fault_or_memory : (i : Reading) (o : Writing) (c : Command) (s : Status) → IsUnheld i.held c.path → AnswersCommand s i o c → (s ≡ ReadFault) ⊎ (s ≡ NoMemory)
+fault_or_memory : (i : Reading) (o : Writing) (c : Target) (s : Status) → IsUnheld i.held c.path → AnswersDecompile s i o c → (s ≡ ReadFault) ⊎ (s ≡ NoMemory)
 fault_or_memory i o c ReadFault un a = inl refl
 fault_or_memory i o c NoMemory un a = inr refl
 fault_or_memory i o c Done un a = absurd (none_held i.held c.path _ un a.1.1.held)
@@ -86,8 +88,8 @@ fault_or_memory i o c (NotProfile k) un a = absurd a.0
 loaded_small : (i : Reading) (path bytes : List ℕ) (P : List ℕ → Type 0) → HoldsAt i.held path bytes → Loads i path P → (length bytes ≤ limit) × P bytes
 loaded_small i path bytes P at l = held_is i.held path bytes (λ all. (length all ≤ limit) × P all) at l.held
 
-long_or_memory : (i : Reading) (o : Writing) (c : Command) (bytes : List ℕ) (s : Status) → HoldsAt i.held c.path bytes → limit < length bytes
-    → (Rose i.faults i.faults_now → ⊥) → AnswersCommand s i o c → (s ≡ FileTooLarge) ⊎ (s ≡ NoMemory)
+long_or_memory : (i : Reading) (o : Writing) (c : Target) (bytes : List ℕ) (s : Status) → HoldsAt i.held c.path bytes → limit < length bytes
+    → (Rose i.faults i.faults_now → ⊥) → AnswersDecompile s i o c → (s ≡ FileTooLarge) ⊎ (s ≡ NoMemory)
 long_or_memory i o c bytes FileTooLarge at long quiet a = inl refl
 long_or_memory i o c bytes NoMemory at long quiet a = inr refl
 long_or_memory i o c bytes Done at long quiet a = let small : length bytes ≤ limit = (loaded_small i c.path bytes _ at a.1.1).0 in absurd (omega arith)
@@ -100,7 +102,7 @@ long_or_memory i o c bytes NoFunction at long quiet a = absurd a.0
 long_or_memory i o c bytes (NotProfile k) at long quiet a = absurd a.0
 
 -- after more bytes than the limit no other answer comes
-many_or_memory : (i : Reading) (o : Writing) (c : Command) (s : Status) → i.got ≤ limit → limit < i.got_now → AnswersCommand s i o c
+many_or_memory : (i : Reading) (o : Writing) (c : Target) (s : Status) → i.got ≤ limit → limit < i.got_now → AnswersDecompile s i o c
     → (s ≡ FileTooLarge) ⊎ (s ≡ NoMemory)
 many_or_memory i o c FileTooLarge few many a = inl refl
 many_or_memory i o c NoMemory few many a = inr refl
@@ -118,8 +120,8 @@ not_broken : (i : Reading) (path bytes : List ℕ) (f : ElfFault) (m : List Segm
     → Loads i path (λ all. image_of all ≡ Ok m) → ⊥
 not_broken i path bytes f m at image l = let e = (loaded_small i path bytes (λ all. image_of all ≡ Ok m) at l).1 in cc
 
-broken_or_memory : (i : Reading) (o : Writing) (c : Command) (bytes : List ℕ) (f : ElfFault) (s : Status) → HoldsAt i.held c.path bytes
-    → length bytes ≤ limit → image_of bytes ≡ Err f → (Rose i.faults i.faults_now → ⊥) → AnswersCommand s i o c → (s ≡ NotElf f) ⊎ (s ≡ NoMemory)
+broken_or_memory : (i : Reading) (o : Writing) (c : Target) (bytes : List ℕ) (f : ElfFault) (s : Status) → HoldsAt i.held c.path bytes
+    → length bytes ≤ limit → image_of bytes ≡ Err f → (Rose i.faults i.faults_now → ⊥) → AnswersDecompile s i o c → (s ≡ NotElf f) ⊎ (s ≡ NoMemory)
 broken_or_memory i o c bytes f (NotElf g) at small image quiet a =
     let e = (loaded_small i c.path bytes (λ all. image_of all ≡ Err g) at a.0).1 in
     let same : g ≡ f = cc in
@@ -136,14 +138,14 @@ broken_or_memory i o c bytes f NoFunction at small image quiet a = absurd a.0
 broken_or_memory i o c bytes f (NotProfile k) at small image quiet a = absurd a.0
 
 -- a range that was decompiled names no place
-not_named : (i : Reading) (c : Command) (bytes text : List ℕ) (m : List Segment) (p : Place) → HoldsAt i.held c.path bytes → image_of bytes ≡ Ok m
+not_named : (i : Reading) (c : Target) (bytes text : List ℕ) (m : List Segment) (p : Place) → HoldsAt i.held c.path bytes → image_of bytes ≡ Ok m
     → NamedPlace m c.range p → Decompiles i c text → ⊥
 not_named i c bytes text m p at image named d =
     let e : d.0 ≡ m = same_image i c.path bytes m d.0 at image d.1 in
     named_or_none m c.range p named (subst (λ n. HasNoPlace n c.range) e d.2.no_place)
 
-outside_or_memory : (i : Reading) (o : Writing) (c : Command) (bytes : List ℕ) (m : List Segment) (p : Place) (s : Status) → HoldsAt i.held c.path bytes
-    → length bytes ≤ limit → image_of bytes ≡ Ok m → NamedPlace m c.range p → (Rose i.faults i.faults_now → ⊥) → AnswersCommand s i o c
+outside_or_memory : (i : Reading) (o : Writing) (c : Target) (bytes : List ℕ) (m : List Segment) (p : Place) (s : Status) → HoldsAt i.held c.path bytes
+    → length bytes ≤ limit → image_of bytes ≡ Ok m → NamedPlace m c.range p → (Rose i.faults i.faults_now → ⊥) → AnswersDecompile s i o c
     → (s ≡ Outside p) ⊎ (s ≡ NoMemory)
 outside_or_memory i o c bytes m p (Outside q) at small image named quiet a =
     let e : a.0.0 ≡ m = same_image i c.path bytes m a.0.0 at image a.0.1 in
@@ -160,6 +162,13 @@ outside_or_memory i o c bytes m p Usage at small image named quiet a = absurd a.
 outside_or_memory i o c bytes m p NoFunction at small image named quiet a = absurd a.0
 outside_or_memory i o c bytes m p (NotProfile k) at small image named quiet a = absurd a.0
 
+-- a text that is known before is written, or a front of it is
+written : (s : Status) (o : Writing) (text : List ℕ) → Writes s o text
+    → ((s ≡ Done) × Appends o.taken o.taken_now text) ⊎ ((s ≡ WriteFault) × StopsIn o text)
+written Done o text w = inl (refl, w)
+written WriteFault o text w = inr (refl, w)
+written s o text w = absurd w
+
 pub each_cause_has_its_answer : EachCauseHasItsAnswer
 each_cause_has_its_answer = record {
   usage = λ i o s a. a.0;
@@ -169,4 +178,6 @@ each_cause_has_its_answer = record {
   broken = broken_or_memory;
   outside = λ words i o c bytes m p s accepted named quiet a.
       outside_or_memory i o c bytes m p s accepted.held accepted.small accepted.image named quiet (subst (λ asked. Answers s i o asked) accepted.command a);
+  prelude = λ i o s a. written s o header_text a.writes;
+  prelude_done = λ i o s quiet a. elim (written s o header_text a.writes) [ inl done ↦ done.0 | inr stopped ↦ absurd (quiet stopped.1.rose) ];
 }

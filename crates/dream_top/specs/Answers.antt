@@ -9,7 +9,8 @@ use Rattle.dream_engine.specs.Place.{NamedPlace}
 use Rattle.dream_engine.specs.Agreement.{IsDecompiled}
 use Rattle.dream_top.specs.declared.status.Status.{Status}
 use Rattle.dream_top.specs.declared.status.Status.TheVariants.{Done, Usage, ReadFault, WriteFault, NoMemory, NotElf, NoFunction, Outside, FileTooLarge, NotProfile}
-use Rattle.dream_top.specs.CommandLine.{Command}
+use Rattle.dream_top.specs.CommandLine.{Target, Command, Decompile, Prelude}
+use Rattle.dream_top.specs.Header.{header_text}
 
 -- the most bytes that a file may have
 abbrev pub limit : ℕ
@@ -83,32 +84,46 @@ abbrev pub LoadsImage : Reading → List ℕ → (List Segment → Type 0) → T
 LoadsImage i path P = (m : List Segment) × Loads i path (λ bytes. image_of bytes ≡ Ok m) × P m
 
 -- the text is that of a function which means what the range of the file does
-abbrev pub Decompiles : Reading → Command → List ℕ → Type 0
-Decompiles i c text = LoadsImage i c.path (λ m. IsDecompiled m c.range text)
+abbrev pub Decompiles : Reading → Target → List ℕ → Type 0
+Decompiles i f text = LoadsImage i f.path (λ m. IsDecompiled m f.range text)
 
--- why a command is refused before anything is written
-abbrev pub Refuses : Status → Reading → Command → Type 0
-Refuses ReadFault i c = IsReadFault i c.path
-Refuses FileTooLarge i c = IsTooLarge i c.path
-Refuses (NotElf fault) i c = Loads i c.path (λ bytes. image_of bytes ≡ Err fault)
-Refuses (Outside place) i c = LoadsImage i c.path (λ m. NamedPlace m c.range place)
-Refuses NoMemory i c = Unit {0}
-Refuses Done i c = ⊥
-Refuses Usage i c = ⊥
-Refuses WriteFault i c = ⊥
-Refuses NoFunction i c = ⊥
-Refuses (NotProfile at) i c = ⊥
+-- why a function is refused before anything is written
+abbrev pub Refuses : Status → Reading → Target → Type 0
+Refuses ReadFault i f = IsReadFault i f.path
+Refuses FileTooLarge i f = IsTooLarge i f.path
+Refuses (NotElf fault) i f = Loads i f.path (λ bytes. image_of bytes ≡ Err fault)
+Refuses (Outside place) i f = LoadsImage i f.path (λ m. NamedPlace m f.range place)
+Refuses NoMemory i f = Unit {0}
+Refuses Done i f = ⊥
+Refuses Usage i f = ⊥
+Refuses WriteFault i f = ⊥
+Refuses NoFunction i f = ⊥
+Refuses (NotProfile at) i f = ⊥
 
 -- ---- the answers
 
--- What a status says where the words are a command. The output grows by the whole text at Done, by a front of it at
+-- What a status says where a function is asked for. The output grows by the whole text at Done, by a front of it at
 -- WriteFault, and not at all otherwise.
-abbrev pub AnswersCommand : Status → Reading → Writing → Command → Type 0
-AnswersCommand Done i o c = (text : List ℕ) × Decompiles i c text × Appends o.taken o.taken_now text
-AnswersCommand WriteFault i o c = (text : List ℕ) × Decompiles i c text × StopsIn o text
-AnswersCommand s i o c = Refuses s i c × Keeps o.taken o.taken_now
+abbrev pub AnswersDecompile : Status → Reading → Writing → Target → Type 0
+AnswersDecompile Done i o f = (text : List ℕ) × Decompiles i f text × Appends o.taken o.taken_now text
+AnswersDecompile WriteFault i o f = (text : List ℕ) × Decompiles i f text × StopsIn o text
+AnswersDecompile s i o f = Refuses s i f × Keeps o.taken o.taken_now
+
+-- What a status says of a text that is known before: the output grows by the whole of it at Done and by a front of it at
+-- WriteFault. No other status comes.
+abbrev pub Writes : Status → Writing → List ℕ → Type 0
+Writes Done o text = Appends o.taken o.taken_now text
+Writes WriteFault o text = StopsIn o text
+Writes s o text = ⊥
+
+-- The header is written, and no call on the files changed their counts.
+pub record AnswersPrelude (s : Status) (i : Reading) (o : Writing) : Type 0 where
+  pub writes : Writes s o header_text
+  pub no_fault : i.faults_now ≡ i.faults
+  pub not_read : i.got_now ≡ i.got
 
 -- What a status says. Words that are no command are answered by Usage, and no others are.
 abbrev pub Answers : Status → Reading → Writing → Option Command → Type 0
 Answers s i o None = (s ≡ Usage) × Keeps o.taken o.taken_now
-Answers s i o (Some c) = AnswersCommand s i o c
+Answers s i o (Some (Decompile f)) = AnswersDecompile s i o f
+Answers s i o (Some Prelude) = AnswersPrelude s i o

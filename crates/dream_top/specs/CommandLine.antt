@@ -1,10 +1,12 @@
 -- Which lists of words are which command. The words are those after the program's name.
-use Rattle.std.specs.Prelude.{ℕ, ◌+◌, ◌-◌, ◌*◌, ◌&&◌, ◌==◌, nat_le, nat_eq, List, [], ◌∷◌, length, drop, Option, Some, None, if◌then◌else◌, codes}
+use Rattle.std.specs.Prelude.{ℕ, ◌+◌, ◌-◌, ◌*◌, ◌&&◌, ◌==◌, nat_le, nat_eq, Bool, false, List, [], ◌∷◌, length, drop, Option, Some, None, if◌then◌else◌, codes}
 use Rattle.std.specs.List.{starts_with, before_first, after_first}
-use Rattle.std.specs.Option.{option_and_then}
+use Rattle.std.specs.Option.{option_and_then, option_map}
 use Rattle.std.specs.Str.{bytes_eq}
 use Rattle.elf_image.specs.declared.range.Range.{Range}
 use Rattle.elf_image.specs.Range.{range}
+use Rattle.dream_top.specs.declared.words.Command as words
+use Rattle.dream_top.specs.declared.words.Command.TheVariants as variant
 
 -- ---- FUNC, where it is an address form
 
@@ -36,21 +38,40 @@ address_form func = if starts_with nat_eq func (codes "0x") then sum_form (drop 
 
 -- ---- the commands
 
--- what the words ask for: the C of the function at a range of the file at a path
-pub record Command : Type 0 where
+-- a function: the range of the file at a path
+pub record Target : Type 0 where
   pub path : List ℕ
   pub range : Range
 
-abbrev pub command : List ℕ → Range → Command
-command path range = record { path = path; range = range }
+abbrev pub target : List ℕ → Range → Target
+target path range = record { path = path; range = range }
+
+-- what the words ask for: the C of a function, or the header that each text includes
+pub data Command : Type 0 where
+  Decompile : Target → Command
+  Prelude : Command
+
+-- what the program's command asks for
+abbrev pub asked_by : words.Command → Command
+asked_by (variant.Decompile f) = Decompile (target f.path.now f.range)
+asked_by variant.Prelude = Prelude
 
 -- PATH is not empty, and FUNC is an address form.
-abbrev pub function_at : List ℕ → Option Range → Option Command
+abbrev pub function_at : List ℕ → Option Range → Option Target
 function_at [] func = None
 function_at (b ∷ bs) None = None
-function_at (b ∷ bs) (Some r) = Some (command (b ∷ bs) r)
+function_at (b ∷ bs) (Some r) = Some (target (b ∷ bs) r)
 
--- `decompile PATH FUNC`; every other list of words is no command
+-- `decompile PATH FUNC`
+abbrev pub target_of : List (List ℕ) → Option Target
+target_of (name ∷ path ∷ func ∷ []) = if bytes_eq name (codes "decompile") then function_at path (address_form func) else None
+target_of _ = None
+
+-- `prelude`
+abbrev pub is_prelude : List (List ℕ) → Bool
+is_prelude (name ∷ []) = bytes_eq name (codes "prelude")
+is_prelude _ = false
+
+-- Either of these; every other list of words is no command.
 abbrev pub command_of : List (List ℕ) → Option Command
-command_of (name ∷ path ∷ func ∷ []) = if bytes_eq name (codes "decompile") then function_at path (address_form func) else None
-command_of _ = None
+command_of words = if is_prelude words then Some Prelude else option_map Decompile (target_of words)

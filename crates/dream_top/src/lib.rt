@@ -1,8 +1,9 @@
-//! The program as one call: words in, the C of a function out, and a note where there is none.
+//! The program as one call: words in, the C of a function or the header out, and a note where there is none.
 //! Given are the words, the files, and the streams for the output and for the notes.
 //! Promised is, for each status, what it says of them: the C means what the code means, or the refusal has its cause.
 #![tactic(auto)]
 
+mod header;
 mod laws;
 mod load;
 mod notes;

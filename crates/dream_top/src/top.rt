@@ -1,14 +1,16 @@
 //! The program's one call.
 
 ghost use Rattle.std.specs.Prelude.{◌≡◌, map, string_bytes, IfOk, IfErr};
-ghost use Rattle.dream_top.specs.CommandLine.{command, command_of};
+ghost use Rattle.dream_top.specs.CommandLine.{target, command_of};
 ghost use Rattle.dream_top.specs.Notes.{note_of};
-ghost use Rattle.dream_top.specs.Answers.{reading_of, writing_of, Decompiles, Refuses, Answers, Tells};
+ghost use Rattle.dream_top.specs.Answers.{reading_of, writing_of, Decompiles, Refuses, AnswersDecompile, Writes, Answers, Tells};
+ghost use Rattle.dream_top.specs.Header.{header_text};
 
+use crate::header::HEADER;
 use crate::load::load;
 use crate::notes::tell;
 use crate::status::Status;
-use crate::words::{Command, command_in};
+use crate::words::{Command, Target, command_in};
 use crate::writing::put_all;
 use dream_engine::decompile_one;
 use dream_outside::{Files, Sink};
@@ -24,14 +26,48 @@ fn decompile<F: Files>(
 ) -> Result<Vec<u8>, Status>
     ensures ok { IfOk result (λ text. Decompiles
         (reading_of (F.held files.old) (F.faults files.old) (F.faults files.new) (F.got files.old) (F.got files.new))
-        (command path.now range) text.items) }
+        (target path.now range) text.items) }
     ensures err { IfErr result (λ s. Refuses s
         (reading_of (F.held files.old) (F.faults files.old) (F.faults files.new) (F.got files.old) (F.got files.new))
-        (command path.now range)) }
+        (target path.now range)) }
 {
     let bytes = load(alloc, files, path)?;
     let image = Image::read(alloc, &bytes)?;
     Ok(decompile_one(alloc, &image, &range)?)
+}
+
+// Writes the text of the function at a range of the file at a path.
+fn write_function<F: Files, K: Sink>(
+    alloc: Global,
+    files: &mut F,
+    path: &str,
+    range: Range,
+    out: &mut K,
+) -> Status
+    ensures { AnswersDecompile result
+        (reading_of (F.held files.old) (F.faults files.old) (F.faults files.new) (F.got files.old) (F.got files.new))
+        (writing_of (K.taken out.old) (K.taken out.new) (K.faults out.old) (K.faults out.new))
+        (target path.now range) }
+{
+    match decompile(alloc, files, path, range) {
+        Err(status) => status,
+        Ok(text) => match put_all(out, &text) {
+            Ok(()) => Status::Done,
+            Err(_) => Status::WriteFault,
+        },
+    }
+}
+
+// Writes the header that each text includes.
+fn write_header<K: Sink>(out: &mut K) -> Status
+    ensures { Writes result
+        (writing_of (K.taken out.old) (K.taken out.new) (K.faults out.old) (K.faults out.new))
+        header_text }
+{
+    match put_all(out, HEADER.as_bytes()) {
+        Ok(()) => Status::Done,
+        Err(_) => Status::WriteFault,
+    }
 }
 
 // Does what the words ask for, but for the note.
@@ -43,13 +79,10 @@ fn work<F: Files, K: Sink>(alloc: Global, words: &[String], files: &mut F, out: 
 {
     match command_in(words) {
         None => Status::Usage,
-        Some(Command { path, range }) => match decompile(alloc, files, path, range) {
-            Err(status) => status,
-            Ok(text) => match put_all(out, &text) {
-                Ok(()) => Status::Done,
-                Err(_) => Status::WriteFault,
-            },
-        },
+        Some(Command::Decompile(Target { path, range })) => {
+            write_function(alloc, files, path, range, out)
+        }
+        Some(Command::Prelude) => write_header(out),
     }
 }
 

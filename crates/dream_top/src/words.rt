@@ -1,15 +1,24 @@
 //! The words of the command line.
 
 ghost use Rattle.std.specs.Prelude.{◌≡◌, ◌<◌, ℕ, map, string_bytes, IfSome, MatchOption};
-ghost use Rattle.dream_top.specs.CommandLine.{hex_digit as hex_digit_of, hex_number as hex_number_of, sum_form as sum_form_of, address_form as address_form_of, command_of, command as command_is};
+ghost use Rattle.dream_top.specs.CommandLine.{hex_digit as hex_digit_of, hex_number as hex_number_of, sum_form as sum_form_of, address_form as address_form_of, target_of, target as target_is, is_prelude as asks_for_header, command_of, asked_by};
 
 use elf_image::Range;
 
-/// What the words ask for: the C of the function at a range of the file at a path.
+/// A function: the range of the file at a path.
 #[derive(Clone, Copy)]
-pub struct Command<'a> {
+pub struct Target<'a> {
     pub path: &'a str,
     pub range: Range,
+}
+
+/// What the words ask for.
+#[derive(Clone, Copy)]
+pub enum Command<'a> {
+    /// The C of a function.
+    Decompile(Target<'a>),
+    /// The header that each text includes.
+    Prelude,
 }
 
 // The value of a hexadecimal digit of either case.
@@ -54,15 +63,36 @@ fn address_form(func: &str) -> Option<Range>
     sum_form(func.strip_prefix("0x")?)
 }
 
-/// The command that the words are, if they are one.
-pub fn command_in(words: &[String]) -> Option<Command<'_>>
-    ensures { MatchOption result (command_of (map string_bytes words.now) ≡ None) (λ c. command_of (map string_bytes words.now) ≡ Some (command_is c.path.now c.range)) }
+// The function that the words ask for, if they do.
+fn target_in(words: &[String]) -> Option<Target<'_>>
+    ensures { MatchOption result (target_of (map string_bytes words.now) ≡ None) (λ t. target_of (map string_bytes words.now) ≡ Some (target_is t.path.now t.range)) }
 {
     match words {
-        [name, path, func] if name.as_str() == "decompile" && !path.is_empty() => Some(Command {
+        [name, path, func] if name.as_str() == "decompile" && !path.is_empty() => Some(Target {
             path: path.as_str(),
             range: address_form(func.as_str())?,
         }),
         _ => None,
+    }
+}
+
+// Whether the words ask for the header.
+fn is_prelude(words: &[String]) -> bool
+    ensures { result ≡ asks_for_header (map string_bytes words.now) }
+{
+    match words {
+        [name] => name.as_str() == "prelude",
+        _ => false,
+    }
+}
+
+/// The command that the words are, if they are one.
+pub fn command_in(words: &[String]) -> Option<Command<'_>>
+    ensures { MatchOption result (command_of (map string_bytes words.now) ≡ None) (λ c. command_of (map string_bytes words.now) ≡ Some (asked_by c)) }
+{
+    if is_prelude(words) {
+        Some(Command::Prelude)
+    } else {
+        Some(Command::Decompile(target_in(words)?))
     }
 }
