@@ -1,4 +1,4 @@
-//! The program over the system's files and streams: it prints the C of one function of an ELF file.
+//! The program over the system's files and streams: it prints the C of one function of an ELF file, or the header.
 //! Given are the words after the program's name, standard output and standard error.
 //! Promised is the exit status that the call answers; what it writes is that call's promise.
 #![tactic(auto)]
