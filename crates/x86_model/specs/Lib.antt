@@ -1,0 +1,9 @@
+pub mod Operands
+pub mod Arithmetic
+pub mod Effects
+pub mod Rows
+pub mod WideRows
+pub mod Meaning
+pub mod Reads
+pub mod Machine
+pub mod Leads

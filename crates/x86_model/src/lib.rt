@@ -1,0 +1,8 @@
+//! The meaning of instructions. Given is an instruction, and the registers, flags and words that its step begins with.
+//! Promised are the reads of a step in their order, and what it does: new registers and flags, at most one store, and
+//! where the run goes on, each by the row of its instruction.
+#![tactic(auto)]
+
+mod effect;
+
+pub use effect::{Access, Effect, Go, Reads, Step, Stored};
