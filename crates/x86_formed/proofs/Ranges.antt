@@ -9,6 +9,7 @@ use Rattle.x86_inst.specs.declared.Operand.{Operand}
 use Rattle.x86_inst.specs.declared.Operand.TheVariants as operand
 use Rattle.x86_inst.specs.Spelling.{base_of, index_of, scale_of, displacement, mem, IsSib, IsDisplaced, IsRegister, IsRm}
 
+-- both are true where their conjunction is
 and_true : (a b : Bool) → (a && b) ≡ true → (a ≡ true) × (b ≡ true)
 and_true true b e = (refl, e)
 and_true false b e = absurd cc
@@ -20,6 +21,7 @@ abbrev pub at_all_below : ℕ → (ℕ → Bool) → Bool
 at_all_below zero p = true
 at_all_below (suc n) p = p n && at_all_below n p
 
+-- what holds at each number below n holds at m
 pub below : (p : ℕ → Bool) (n m : ℕ) → m < n → at_all_below n p ≡ true → p m ≡ true
 below p zero m lt e = absurd (omega arith)
 below p (suc n) m lt e =
@@ -38,6 +40,7 @@ at_all_operands scale disp seg p =
     at_all_below 8 (λ n. p (operand.Reg n)) &&
     at_all_or_none (λ base. at_all_or_none (λ index. p (operand.Mem (record { base = base; index = index; scale = scale; disp = disp; seg = seg }))))
 
+-- a base is none or a register
 at_base : (p : Option ℕ → Bool) (md n : ℕ) → n < 8 → at_all_or_none p ≡ true → p (base_of md n) ≡ true
 at_base p md n lt e = at (md == 0 && n == 5)
   where
@@ -45,6 +48,7 @@ at_base p md n lt e = at (md == 0 && n == 5)
     at true = (and_true (p None) _ e).0
     at false = below (λ k. p (Some k)) 8 n lt (and_true (p None) _ e).1
 
+-- an index is none or a register
 at_index : (p : Option ℕ → Bool) (n : ℕ) → n < 8 → at_all_or_none p ≡ true → p (index_of n) ≡ true
 at_index p n lt e = at (n == 4)
   where
@@ -69,8 +73,8 @@ module _ (p : Operand → Bool) (holds : (scale disp : ℕ) (seg : Seg) → at_a
   at_sib seg md [] o h = absurd h
   at_sib seg md (sib ∷ disp) o h =
       let scale = scale_of (sib / 64) (sib / 8 % 8) in
-      let e : p (mem seg md (sib % 8) (index_of (sib / 8 % 8)) scale disp) ≡ true =
-      at_index (memory scale (displacement disp) seg (base_of md (sib % 8))) (sib / 8 % 8) (omega arith) (at_memory scale (displacement disp) seg md (sib % 8) (omega arith)) in
+      let b = at_memory scale (displacement disp) seg md (sib % 8) (omega arith) in
+      let e : p (mem seg md (sib % 8) (index_of (sib / 8 % 8)) scale disp) ≡ true = at_index (memory scale (displacement disp) seg (base_of md (sib % 8))) (sib / 8 % 8) (omega arith) b in
       subst (λ x. p x ≡ true) (sym h.1) e
 
   at_displaced : (seg : Seg) (md rm : ℕ) → rm < 8 → (s : List ℕ) (o : Operand) → IsDisplaced seg md rm s o → p o ≡ true
@@ -88,6 +92,7 @@ module _ (p : Operand → Bool) (holds : (scale disp : ℕ) (seg : Seg) → at_a
 
 -- ---- lists
 
+-- what holds of all items holds of the one at a place
 pub all_get : {A : Type 0} (p : A → Bool) (xs : List A) (j : ℕ) (x : A) → list_all p xs ≡ true → slice_get xs j ≡ Some x → p x ≡ true
 all_get p [] j x e g = absurd cc
 all_get p (y ∷ ys) zero x e g = let k : y ≡ x = cc in subst (λ z. p z ≡ true) k (and_true (p y) (list_all p ys) e).0

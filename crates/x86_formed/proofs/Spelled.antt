@@ -23,6 +23,7 @@ abbrev all_formed : Option Mode → Row → Fields → (scale disp : ℕ) → Se
 all_formed None r f scale disp seg = formed_by_opcode r f
 all_formed (Some k) r f scale disp seg = formed_by_modrm r f scale disp seg
 
+-- each row shows only formed instructions, whatever the other fields are
 table_formed : (f : Fields) (scale disp : ℕ) (seg : Seg) → list_all (λ r. all_formed r.modrm r f scale disp seg) table ≡ true
 unfolding table
 table_formed f scale disp seg = refl
@@ -32,16 +33,17 @@ module _ (r : Row) (p : Prefixes) (low : ℕ) (within : low < r.count) (i : Inst
   abbrev given : (reg : ℕ) → Operand → (imm : ℕ) → Fields
   given reg rm imm = fields p low reg rm imm
 
+  -- where there is no ModRM
   by_opcode : (imm : ℕ) → formed_by_opcode r (given 0 (operand.Reg 0) imm) ≡ true → i ≡ r.inst (given 0 (operand.Reg 0) imm) → is_formed i ≡ true
   by_opcode imm e k =
       subst (λ (x : Inst). is_formed x ≡ true) (sym k) (below (λ l. is_formed (r.inst (fields p l 0 (operand.Reg 0) imm))) r.count low within e)
 
+  -- where there is
   by_modrm : ((f : Fields) (scale disp : ℕ) (seg : Seg) → formed_by_modrm r f scale disp seg ≡ true) → (m : ℕ) (s : List ℕ) → Completes r p low m s i → is_formed i ≡ true
   by_modrm e m s c =
       let reg = m / 8 % 8 in
       let imm = little_endian c.imm in
-      let at : (scale disp : ℕ) (seg : Seg) → at_all_operands scale disp seg (λ rm. is_formed (r.inst (given reg rm imm))) ≡ true =
-      λ scale disp seg. below (λ n. at_all_operands scale disp seg (λ rm. is_formed (r.inst (given n rm imm)))) 8 reg (omega arith) (e (given reg (operand.Reg 0) imm) scale disp seg) in
+      let at = λ (scale disp : ℕ) (seg : Seg). below (λ n. at_all_operands scale disp seg (λ rm. is_formed (r.inst (given n rm imm)))) 8 reg (omega arith) (e (given reg (operand.Reg 0) imm) scale disp seg) in
       subst (λ (x : Inst). is_formed x ≡ true) (sym c.inst)
       (at_rm (λ rm. is_formed (r.inst (given reg rm imm))) at (segment_of p.segment) (m / 64) (m % 8) (omega arith) c.address c.rm c.operand)
 
@@ -50,6 +52,7 @@ module _ (r : Row) (p : Prefixes) (low : ℕ) (within : low < r.count) (i : Inst
   by_row (Some k) e [] h = absurd h
   by_row (Some k) e (m ∷ s) h = by_modrm e m s h.1
 
+-- what follows prefixes is formed
 follows_formed : (p : Prefixes) (s : List ℕ) (i : Inst) → Follows p s i → is_formed i ≡ true
 follows_formed p s i h =
     by_row h.r p h.low h.within i h.r.modrm
