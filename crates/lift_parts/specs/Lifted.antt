@@ -1,5 +1,5 @@
 -- When blocks are those of an instruction: they have its effect, are never stuck, and lead to its successors.
-use Rattle.std.specs.Prelude.{◌≡◌, ℕ, ◌+◌, ◌<◌, nat_lt, Bool, true, false, List, [], ◌∷◌, length, slice_get, Some, IsTrue, if◌then◌else◌}
+use Rattle.std.specs.Prelude.{◌≡◌, ℕ, ◌+◌, ◌<◌, nat_lt, Bool, true, false, List, [], ◌∷◌, length, slice_get, Some, IsTrue, MatchBool, if◌then◌else◌}
 use Rattle.dream_words.specs.declared.machine.Flags.{Flags}
 use Rattle.x86_inst.specs.declared.Inst.{Inst}
 use Rattle.x86_inst.specs.declared.Inst.TheVariants as i
@@ -80,7 +80,7 @@ abbrev pub EndAs : Inst → List Block → Type 0
 EndAs (i.Jcc c distance) blocks = OneEnds (IsBranch 1 2) blocks
 EndAs (i.Loop distance) blocks = OneEnds (IsBranch 1 2) blocks
 EndAs (i.Jecxz distance) blocks = OneEnds (IsBranch 1 2) blocks
-EndAs (i.Str op size r s) blocks = if repeats r then TwoEnd (IsBranch 1 3) (λ e. Unit {0}) blocks else OneEnds IsPlain blocks
+EndAs (i.Str op size r s) blocks = MatchBool (repeats r) (TwoEnd (IsBranch 1 3) (λ e. Unit {0}) blocks) (OneEnds IsPlain blocks)
 EndAs _ blocks = OneEnds IsPlain blocks
 
 -- each block stands for code at the address
