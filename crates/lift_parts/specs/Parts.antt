@@ -68,7 +68,15 @@ with_segment seg.Gs e = bin op.Add e (name Gs)
 abbrev pub address_word : Mem → CExpr
 address_word m = with_segment m.seg (with_base m.base (with_index m.index m.scale m.disp))
 
--- the value of an operand; that of memory was read before
+-- A word whose low part is the value of an operand; the word of memory was read before.
+abbrev pub raw_word : Size → Operand → CExpr
+raw_word B (o.Reg n) = if nat_lt n 4 then reg n else bin op.Shr (reg (n - 4)) (num 8)
+raw_word H (o.Reg n) = reg n
+raw_word W (o.Reg n) = reg n
+raw_word size (o.Mem m) = temp 0
+raw_word size (o.Imm k) = num (low_part (bits_of size) k)
+
+-- the value of an operand
 abbrev pub value_word : Size → Operand → CExpr
 value_word size (o.Reg n) = part_word size n
 value_word size (o.Mem m) = temp 0
