@@ -1,8 +1,9 @@
 -- What is over stays over.
 use Rattle.std.proofs.Common.{◌≡◌, ℕ, zero, suc, ◌+◌, ◌⊎◌, inl, inr, refl, sym, ap, ◌∙◌, arith}
 use Rattle.dream_words.specs.Same.{IsGoing}
-use Rattle.machine.specs.Steps.{Onward, At, Finished, Strays, Blank, go_on, steps}
-use Rattle.machine.specs.Run.{State, Ending, step_at, scene_of, start_state, outcome_of, machine_run}
+use Rattle.x86_model.specs.Machine.{Onward, At, Finished, Strays, Blank, State, Ending}
+use Rattle.machine.specs.Steps.{go_on, steps}
+use Rattle.machine.specs.Run.{step_at, scene_of, start_state, outcome_of, machine_run}
 use Rattle.machine.specs.Laws.{OutcomesStay}
 
 module _ (M E : Type 0) (step : ℕ → M → Onward M E) where

@@ -8,9 +8,12 @@ use Rattle.elf_image.specs.Range.{is_inside}
 use Rattle.dream_words.specs.declared.outcome.Answer.{Answer}
 use Rattle.dream_words.specs.Memory.{Mem, byte_at}
 use Rattle.x86_inst.specs.declared.Inst.{Inst}
-use Rattle.machine.specs.Meaning.{Go, Next, Again, To, CallTo, LeaveTo, Return, Fault, Stray, is_indirect}
+use Rattle.x86_model.specs.declared.effect.Go.{Go}
+use Rattle.x86_model.specs.declared.effect.Go.TheVariants.{Next, Again, To, CallTo, LeaveTo, Return, Fault, Stray}
+use Rattle.x86_model.specs.Machine.{State}
+use Rattle.x86_model.specs.Leads.{stored}
 use Rattle.machine.specs.Code.{all_below, keeps_frozen, keeps_slot, is_broken}
-use Rattle.machine.specs.Run.{Scene, State, stored, answer_breaks, is_middle, strays_in}
+use Rattle.machine.specs.Run.{Scene, is_indirect, answer_breaks, is_middle, strays_in}
 use Rattle.machine.specs.Laws.{StrayingIsExact, Breaks, AnswerBreaks, IsMiddle, GoStrays}
 use Rattle.machine.specs.Laws as laws
 

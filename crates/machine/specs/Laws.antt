@@ -9,9 +9,13 @@ use Rattle.dream_words.specs.declared.outcome.Answer.{Answer}
 use Rattle.dream_words.specs.Memory.{Mem, byte_at}
 use Rattle.dream_words.specs.Same.{IsGoing}
 use Rattle.x86_inst.specs.declared.Inst.{Inst}
-use Rattle.machine.specs.Meaning.{Effect, Go, CallTo, LeaveTo, Return, Stray, is_indirect}
+use Rattle.x86_model.specs.declared.effect.Effect.{Effect}
+use Rattle.x86_model.specs.declared.effect.Go.{Go}
+use Rattle.x86_model.specs.declared.effect.Go.TheVariants as go
+use Rattle.x86_model.specs.Machine.{State}
+use Rattle.x86_model.specs.Leads.{stored}
 use Rattle.machine.specs.Code.{Decodes}
-use Rattle.machine.specs.Run.{Scene, State, stored, strays, machine_run}
+use Rattle.machine.specs.Run.{Scene, is_indirect, strays, machine_run}
 
 -- Every range has its instructions.
 abbrev pub EveryRangeDecodes : Type 0
@@ -41,10 +45,10 @@ pub record IsMiddle (sc : Scene) (i : Inst) (a : ℕ) : Type 0 where
 
 -- the step strays by where it goes
 pub data GoStrays (sc : Scene) (i : Inst) (m : State) : Go → Type 0 where
-  call : (a : ℕ) → AnswerBreaks sc m.left m.mem ⊎ IsMiddle sc i a → GoStrays sc i m (CallTo a)
-  leave : (a : ℕ) → AnswerBreaks sc m.left m.mem ⊎ IsMiddle sc i a → GoStrays sc i m (LeaveTo a)
-  elsewhere : (m.regs.esp ≡ sc.slot → ⊥) → GoStrays sc i m Return
-  undefined : GoStrays sc i m Stray
+  call : (a : ℕ) → AnswerBreaks sc m.left m.mem ⊎ IsMiddle sc i a → GoStrays sc i m (go.CallTo a)
+  leave : (a : ℕ) → AnswerBreaks sc m.left m.mem ⊎ IsMiddle sc i a → GoStrays sc i m (go.LeaveTo a)
+  elsewhere : (m.regs.esp ≡ sc.slot → ⊥) → GoStrays sc i m go.Return
+  undefined : GoStrays sc i m go.Stray
 
 -- A step strays exactly where its store breaks the memory or it strays by where it goes.
 abbrev pub StrayingIsExact : Type 0

@@ -1,12 +1,6 @@
 -- Runs that go step by step from address to address.
 use Rattle.std.specs.Prelude.{ℕ, zero, suc, Bool, true, false}
-
--- what a step leads to: an address, the run's end, a stray, or an address at which there is no instruction
-pub data Onward (M E : Type 0) : Type 0 where
-  At : ℕ → M → Onward M E
-  Finished : E → Onward M E
-  Strays : Onward M E
-  Blank : Onward M E
+use Rattle.x86_model.specs.Machine.{Onward, At, Finished, Strays, Blank}
 
 -- goes on from an address that was come to
 abbrev pub go_on : {M E : Type 0} → Onward M E → (ℕ → M → Onward M E) → Onward M E

@@ -3,8 +3,6 @@
 //! Promised are, as laws on the definitions, that each range has its instructions, and when a step strays.
 #![tactic(auto)]
 
-mod form;
 mod laws;
 
-pub use form::Form;
 pub use laws::{every_range_decodes, outcomes_stay, straying_is_exact};
