@@ -7,3 +7,4 @@ pub mod Meaning
 pub mod Reads
 pub mod Machine
 pub mod Leads
+pub mod Laws
