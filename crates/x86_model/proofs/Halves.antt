@@ -1,5 +1,5 @@
 -- A signed product fits where its high half is made of copies of the low half's sign.
-use Rattle.std.proofs.Common.{◌≡◌, ℕ, ℤ, suc, zero, pos, ◌+◌, ◌-◌, ◌*◌, ◌/◌, ◌%◌, ◌^◌, ◌<◌, ◌≤◌, ◌*ℤ◌, neg_ℤ, unsigned_abs, Bool, true, false, not, nat_eq, if◌then◌else◌, arith, refl, ap, sym, ◌∙◌, inl, inr, subst, lit≤, nat_le}
+use Rattle.std.proofs.Common.{◌≡◌, ℕ, suc, zero, pos, ◌+◌, ◌-◌, ◌*◌, ◌/◌, ◌%◌, ◌^◌, ◌<◌, ◌≤◌, ◌*ℤ◌, neg_ℤ, unsigned_abs, Bool, true, false, not, nat_eq, if◌then◌else◌, arith, refl, ap, sym, ◌∙◌, inl, inr, subst, lit≤, nat_le}
 use Rattle.std.specs.Int.{int_rem_euclid}
 use Rattle.std.proofs.Math.Pow.{mod-mod-pow}
 use Rattle.std.proofs.Math.Nat.{mod-add-mod, mul-mod_left, add-mul-mod_self_right, mul-le-mul, mul_comm, le_trans}

@@ -1,5 +1,5 @@
 -- Masks that put bytes together.
-use Rattle.std.proofs.Common.{◌≡◌, ℕ, ◌+◌, ◌-◌, ◌*◌, ◌/◌, ◌%◌, ◌^◌, ◌<◌, ◌≤◌, bit_and, bit_or, arith, refl, ap, sym, ◌∙◌, lit≤}
+use Rattle.std.proofs.Common.{◌≡◌, ℕ, ◌+◌, ◌*◌, ◌/◌, ◌%◌, ◌^◌, ◌<◌, bit_and, bit_or, arith, ap, ◌∙◌, lit≤}
 use Rattle.std.proofs.lemmas.Nat.{and_mask, or_shifted, mod_below, pow_pos}
 use Rattle.std.proofs.lemmas.Nat.Bits.{and_high_mask}
 use Rattle.x86_model.specs.Operands.{with_low, with_second}

@@ -1,5 +1,5 @@
 -- Sums and differences as the code makes them.
-use Rattle.std.proofs.Common.{◌≡◌, ℕ, ◌+◌, ◌-◌, ◌*◌, ◌/◌, ◌%◌, ◌^◌, ◌<◌, ◌≤◌, Bool, true, false, arith, refl, ap, sym, ◌∙◌, ◌⊎◌, inl, inr, subst}
+use Rattle.std.proofs.Common.{◌≡◌, ℕ, ◌+◌, ◌-◌, ◌%◌, ◌^◌, ◌<◌, ◌≤◌, Bool, true, false, arith, sym, inl, inr, subst}
 use Rattle.dream_words.specs.Words.{IsSize, low_part, bit_of}
 use Rattle.x86_model.specs.Arithmetic.{sum_of, difference_of}
 

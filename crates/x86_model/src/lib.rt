@@ -15,6 +15,8 @@ mod products;
 mod rows;
 mod shifts;
 mod strings;
+#[cfg(test)]
+mod tests;
 
 pub use effect::{Access, Effect, Go, Reads, Step, Stored};
 pub use laws::product_overflows_by_halves;

@@ -5,13 +5,13 @@ ghost use Rattle.x86_inst.specs.declared.Size.TheVariants.{W};
 ghost use Rattle.x86_model.specs.declared.effect.Go.TheVariants as go;
 ghost use Rattle.x86_model.specs.Operands.{value_of};
 ghost use Rattle.x86_model.specs.Effects.{goes};
-ghost use Rattle.x86_model.specs.Rows.{alu_written, alu_carry, alu_row, inc_row, dec_row, neg_row, push_row, popped, pop_row, target_at, jcc_row, set_row, cmov_row, call_row, is_bare, jump_to_row, ret_row, leave_row, loop_row, jecxz_row, xchg_row, test_row, mov_row, lea_row, not_row, carry_row};
+ghost use Rattle.x86_model.specs.Rows.{alu_written, alu_carry, alu_row, keeping_carry, inc_row, dec_row, neg_row, push_row, popped, pop_row, target_at, jcc_row, set_row, cmov_row, call_row, is_bare, jump_to_row, ret_row, leave_row, loop_row, jecxz_row, xchg_row, test_row, mov_row, lea_row, not_row, carry_row};
 
 use crate::arithmetic::{alu as alu_of, flag_if};
 use crate::effect::{Effect, Go, Step};
 use crate::effects::{condition, done, goes, known, push as pushed, put, stray};
 use crate::operands::{address, low, value};
-use dream_words::{Bit, Regs};
+use dream_words::{Bit, Flags, Regs};
 use x86_inst::{AluOp, CarryOp, Cond, Mem, Operand, Seg, Size};
 
 /// The carry that an operation reads; none where it is undefined.
@@ -47,22 +47,29 @@ pub(crate) fn alu(op: AluOp, size: Size, d: &Operand, s: &Operand, a: &Step) -> 
     }
 }
 
+/// New flags with the old carry.
+fn keeping_carry(old: &Flags, new: Flags) -> Flags
+    ensures { result ≡ keeping_carry old.now new }
+{
+    Flags { c: old.c, ..new }
+}
+
 /// INC.
 pub(crate) fn inc(size: Size, d: &Operand, a: &Step) -> Effect
     ensures { result ≡ inc_row size d.now a.now }
 {
-    let mut computed = alu_of(AluOp::Add, size, value(size, d, a), 1, false);
-    computed.flags.c = a.flags.c;
-    put(size, d, computed.value, a, done(a, computed.flags))
+    let computed = alu_of(AluOp::Add, size, value(size, d, a), 1, false);
+    let e = done(a, keeping_carry(&a.flags, computed.flags));
+    put(size, d, computed.value, a, e)
 }
 
 /// DEC.
 pub(crate) fn dec(size: Size, d: &Operand, a: &Step) -> Effect
     ensures { result ≡ dec_row size d.now a.now }
 {
-    let mut computed = alu_of(AluOp::Sub, size, value(size, d, a), 1, false);
-    computed.flags.c = a.flags.c;
-    put(size, d, computed.value, a, done(a, computed.flags))
+    let computed = alu_of(AluOp::Sub, size, value(size, d, a), 1, false);
+    let e = done(a, keeping_carry(&a.flags, computed.flags));
+    put(size, d, computed.value, a, e)
 }
 
 /// NEG.
