@@ -1,3 +1,4 @@
 mod Halves
 mod Merge
+mod Parts
 mod Sums
