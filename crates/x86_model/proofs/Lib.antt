@@ -1,4 +1,4 @@
-mod Halves
-mod Merge
-mod Parts
+pub mod Halves
+pub mod Merge
+pub mod Parts
 mod Sums
