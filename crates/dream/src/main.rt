@@ -3,33 +3,19 @@
 //! Promised is the exit status that the call answers; what it writes is that call's promise.
 #![tactic(auto)]
 
+mod words;
+
 use dream_outside::{RealFiles, RealSink};
 use dream_top::{Status, dream};
-use std::alloc::AllocError;
 use std::env;
-use std::io::ErrorKind;
 use std::process::ExitCode;
-
-// The words after the program's name. Where some word isn't UTF-8 there are none, which is no command.
-fn words(rt: &HostRuntime) -> Result<Vec<String>, AllocError> {
-    let mut words = Vec::new(rt.alloc());
-    match env::args(rt) {
-        Ok(args) => {
-            for word in args.skip(1) {
-                words.push(word)?;
-            }
-        }
-        Err(error) if error.kind() == ErrorKind::OutOfMemory => return Err(AllocError),
-        Err(_) => {}
-    }
-    Ok(words)
-}
+use words::words_of;
 
 fn main(rt: HostRuntime) -> ExitCode {
-    let Ok(words) = words(&rt) else {
+    let alloc = rt.alloc();
+    let Ok(words) = words_of(alloc, env::args(&rt)) else {
         return ExitCode::from(Status::NoMemory.code());
     };
-    let alloc = rt.alloc();
     let mut out = RealSink::new(rt.stdout());
     let mut notes = RealSink::new(rt.stderr());
     let mut files = RealFiles::new(rt);

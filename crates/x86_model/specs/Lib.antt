@@ -7,4 +7,5 @@ pub mod Meaning
 pub mod Reads
 pub mod Machine
 pub mod Leads
+pub mod Successors
 pub mod Laws

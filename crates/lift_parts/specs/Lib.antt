@@ -1,0 +1,4 @@
+pub mod Stands
+pub mod Lifted
+pub mod Parts
+pub mod Shown

@@ -1,0 +1,4 @@
+pub mod Run
+pub mod World
+pub mod Rule
+pub mod Counts
