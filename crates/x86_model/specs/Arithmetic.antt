@@ -68,6 +68,10 @@ alu_flags Cmp bits x y c = difference_flags bits x y false
 abbrev pub product_overflows : ℕ → ℕ → ℕ → Bool
 product_overflows bits x y = not (fits_signed bits (signed_part bits x *ℤ signed_part bits y))
 
+-- a word of copies of the top bit
+abbrev pub sign_copies : ℕ → ℕ → ℕ
+sign_copies bits v = if sign_bit bits v then 2 ^ bits - 1 else 0
+
 -- a shift right with copies of the top bit
 abbrev pub shifted_signed_at : ℕ → ℕ → ℕ → ℕ
 shifted_signed_at bits x n = if sign_bit bits x then 2 ^ bits - 1 - (2 ^ bits - 1 - x) / 2 ^ n else x / 2 ^ n

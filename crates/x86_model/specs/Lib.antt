@@ -8,3 +8,4 @@ pub mod Reads
 pub mod Machine
 pub mod Leads
 pub mod Successors
+pub mod Laws

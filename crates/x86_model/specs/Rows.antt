@@ -14,13 +14,13 @@ use Rattle.x86_inst.specs.declared.Operand.TheVariants as o
 use Rattle.dream_words.specs.declared.machine.Regs.{Regs}
 use Rattle.dream_words.specs.declared.machine.Bit.TheVariants.{Zero, One}
 use Rattle.dream_words.specs.declared.machine.Flags.{Flags}
-use Rattle.dream_words.specs.Words.{sign_bit, sign_extended, bit_of}
+use Rattle.dream_words.specs.Words.{sign_extended, bit_of}
 use Rattle.dream_words.specs.Registers.{reg_of, with_reg}
 use Rattle.x86_model.specs.declared.effect.Step.{Step}
 use Rattle.x86_model.specs.declared.effect.Effect.{Effect}
 use Rattle.x86_model.specs.declared.effect.Go.TheVariants as go
 use Rattle.x86_model.specs.Operands.{bits_of, part_of, address_of, value_of}
-use Rattle.x86_model.specs.Arithmetic.{flag_if, minus_of, sum_of, sum_flags, difference_of, difference_flags, logic_flags, alu_value, alu_flags}
+use Rattle.x86_model.specs.Arithmetic.{flag_if, minus_of, sum_of, sum_flags, difference_of, difference_flags, logic_flags, alu_value, alu_flags, sign_copies}
 use Rattle.x86_model.specs.Effects.{done, goes, put, push, known, condition_of, reading}
 
 -- ---- rows
@@ -154,7 +154,7 @@ widen_row size a = put size (o.Reg 0) (sign_extended (bits_of (half_of size)) (p
 
 -- CWD, CDQ: DX or EDX is the sign of the accumulator
 abbrev pub spread_row : Size → Step → Effect
-spread_row size a = put size (o.Reg 2) (if sign_bit (bits_of size) (part_of size a.regs 0) then 2 ^ bits_of size - 1 else 0) a (done a a.flags)
+spread_row size a = put size (o.Reg 2) (sign_copies (bits_of size) (part_of size a.regs 0)) a (done a a.flags)
 
 -- a word with its bytes in the other order
 abbrev pub swapped : ℕ → ℕ

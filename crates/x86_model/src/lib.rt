@@ -3,6 +3,21 @@
 //! where the run goes on, each by the row of its instruction.
 #![tactic(auto)]
 
+mod accesses;
+mod arithmetic;
+mod bits;
 mod effect;
+mod effects;
+mod laws;
+mod meaning;
+mod operands;
+mod products;
+mod rows;
+mod shifts;
+mod strings;
+#[cfg(test)]
+mod tests;
 
 pub use effect::{Access, Effect, Go, Reads, Step, Stored};
+pub use laws::{conditions_are_opposite, parts_are_apart, product_overflows_by_halves};
+pub use meaning::{apply, wants};

@@ -1,0 +1,4 @@
+pub mod Halves
+pub mod Merge
+pub mod Parts
+mod Sums
