@@ -8,3 +8,4 @@ mod LineAgrees
 mod Texts
 mod WellFormed
 pub mod OnePlaces
+mod Forms

@@ -11,11 +11,13 @@ use Rattle.dream_words.specs.declared.outcome.Outcome.TheVariants as outcome
 use Rattle.dream_words.specs.Same.{Same, IsEnded, IsGoing, calls_of, AreFront}
 use Rattle.dream_words.specs.Agreement.{Agreeing}
 use Rattle.dream_words.proofs.Outcomes.{Same_refl, SameCall_refl}
-use Rattle.machine.specs.declared.form.Form.{Form}
-use Rattle.machine.specs.Meaning.{LeaveTo}
-use Rattle.machine.specs.Steps.{Finished, judged}
+use Rattle.dream_engine.specs.declared.form.Form.{Form}
+use Rattle.x86_model.specs.declared.effect.Go.TheVariants.{LeaveTo}
+use Rattle.x86_model.specs.Machine.{Finished, Ending}
+use Rattle.x86_model.specs.Leads.{leads}
+use Rattle.machine.specs.Steps.{judged}
 use Rattle.machine.specs.Code.{Decodes, is_broken}
-use Rattle.machine.specs.Run.{Scene, Ending, leads, answer_breaks, scene_of, machine_run, outcome_of}
+use Rattle.machine.specs.Run.{IsStart, Scene, answer_breaks, scene_of, machine_run, outcome_of}
 use Rattle.run_parts.specs.World.{World, regs_in, start_world}
 use Rattle.run_parts.specs.World as world
 use Rattle.c_syntax.specs.Run.{c_run}
@@ -24,7 +26,7 @@ use Rattle.dream_engine.specs.declared.line.Exit.TheVariants as exit
 use Rattle.dream_engine.specs.declared.line.Line.{Line}
 use Rattle.dream_engine.specs.Agreement.{Agrees}
 use Rattle.dream_engine.specs.Line.{StandsAt, function_of}
-use Rattle.dream_engine.proofs.LineRuns.{Rest, state_of, all_assigned, all_kept, last_step, line_steps, line_ends}
+use Rattle.dream_engine.proofs.LineRuns.{HasRegisters, words_of, Rest, state_of, all_assigned, all_kept, last_step, line_steps, line_ends}
 use Rattle.dream_engine.proofs.LineOfC.{left_by, text_end, text_does, text_ended, AllGoOn}
 
 -- ---- agreement with a text that ends in one way
@@ -120,6 +122,10 @@ all_go_on m r (f ∷ fs) a e h = (h.2, all_go_on m r fs h.0 e h.4)
 abbrev rest_of : Start → Rest
 rest_of s = record { flags = s.flags; fs = s.fs; gs = s.gs }
 
+-- the registers of a start are words
+start_has : (m : List Segment) (start : Start) (answers : List Answer) → IsStart m start → HasRegisters (start_world start answers)
+start_has m start answers is = record { words = λ n. words_of start.regs n is.regs }
+
 pub line_agrees : (m : List Segment) (r : Range) (l : Line) → StandsAt m r r.entry l.forms l.exit → Agrees m r (function_of r.entry l)
 line_agrees m r l h = record {
   address = refl;
@@ -129,11 +135,11 @@ line_agrees m r l h = record {
       let w = start_world start answers in
       let end = outcome_of (last_step sc d l.exit (all_kept k w l.forms) (all_assigned w l.forms)) in
       one_end (machine_run m r decoded start answers) (c_run (function_of r.entry l) start answers) (suc (length l.forms)) end (text_end l.exit (all_assigned w l.forms))
-      (λ n. elim (line_steps sc d l.forms r.entry l.exit k w h n) [
+      (λ n. elim (line_steps sc d l.forms r.entry l.exit k w h (start_has m start answers is) n) [
         | inl o ↦ inl (ap outcome_of o.is ∙ ap (λ calls. outcome.Going calls) o.calls)
         | inr e ↦ inr (ap outcome_of e)
       ])
-      (ap outcome_of (line_ends sc d l.forms r.entry l.exit k w h))
+      (ap outcome_of (line_ends sc d l.forms r.entry l.exit k w h (start_has m start answers is)))
       (last_is sc d l.exit (all_kept k w l.forms) (all_assigned w l.forms))
       (λ t. ap world.outcome_of (text_does l.forms l.exit t w (all_go_on m r l.forms r.entry l.exit h)))
       (text_ended l.exit (all_assigned w l.forms));

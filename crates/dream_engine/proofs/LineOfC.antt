@@ -7,8 +7,8 @@ use Rattle.dream_words.specs.declared.outcome.Outcome.{Outcome}
 use Rattle.dream_words.specs.declared.outcome.Outcome.TheVariants as outcome
 use Rattle.dream_words.specs.Same.{IsEnded}
 use Rattle.dream_words.specs.Words.{low_part}
-use Rattle.machine.specs.declared.form.Form.{Form}
-use Rattle.machine.specs.declared.form.Form.TheVariants as form
+use Rattle.dream_engine.specs.declared.form.Form.{Form}
+use Rattle.dream_engine.specs.declared.form.Form.TheVariants as form
 use Rattle.run_parts.specs.Parts.{Ends, Over, on, after}
 use Rattle.run_parts.specs.Steps.{having, done}
 use Rattle.run_parts.specs.World.{Names, World, regs_in, answered, returned}

@@ -6,9 +6,9 @@ use Rattle.x86_inst.specs.Spelling.{Spells}
 use Rattle.elf_image.specs.declared.image.Segment.{Segment}
 use Rattle.elf_image.specs.declared.range.Range.{Range}
 use Rattle.elf_image.specs.Range.{is_inside, bytes_to_end}
-use Rattle.machine.specs.declared.form.Form.{Form}
-use Rattle.machine.specs.declared.form.Form.TheVariants as form
-use Rattle.machine.specs.Meaning.{HasWords}
+use Rattle.dream_engine.specs.declared.form.Form.{Form}
+use Rattle.dream_engine.specs.declared.form.Form.TheVariants as form
+use Rattle.dream_engine.specs.Form.{HasWords}
 use Rattle.dream_engine.specs.declared.place.Cause.{Cause}
 use Rattle.dream_engine.specs.declared.line.Exit.TheVariants as exit
 use Rattle.dream_engine.specs.Place.{HasNoPlace, NamedPlace, range_place, place_of}

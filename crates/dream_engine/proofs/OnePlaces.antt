@@ -7,11 +7,11 @@ use Rattle.x86_decode.specs.Decodes.{NoneBegins}
 use Rattle.dream_engine.specs.declared.place.Place.{Place}
 use Rattle.dream_engine.specs.declared.place.Cause.{Cause}
 use Rattle.dream_engine.specs.declared.place.Cause.TheVariants.{Instruction, Straddle, IndirectJump, CallInside, RangeEmpty, RangeTooLarge, RangeUnbacked}
-use Rattle.dream_engine.specs.Place.{place_of, HasCause, HasNoMeaning, NamedAfter, IsLeastPlace, range_place}
+use Rattle.dream_engine.specs.Place.{place_of, HasCause, HasNoForm, NamedAfter, IsLeastPlace, range_place}
 use Rattle.dream_engine.specs.Laws.{OnePlace}
 
 -- where an instruction begins, it isn't so that none begins
-some_begins : (m : List Segment) (r : Range) (a : ℕ) → HasNoMeaning m r a → NoneBegins (bytes_to_end m r a) → ⊥
+some_begins : (m : List Segment) (r : Range) (a : ℕ) → HasNoForm m r a → NoneBegins (bytes_to_end m r a) → ⊥
 some_begins m r a h none = none h.n h.i h.begins.spelled
 
 -- an address has at most one cause

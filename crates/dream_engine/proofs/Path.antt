@@ -8,14 +8,14 @@ use Rattle.elf_image.specs.Image.{frozen_byte}
 use Rattle.elf_image.specs.Range.{is_inside, before_some, frozen_from, bytes_to_end}
 use Rattle.x86_inst.specs.declared.Inst.{Inst}
 use Rattle.machine.specs.Code.{BeginsAt}
-use Rattle.machine.specs.declared.form.Form.{Form}
-use Rattle.machine.specs.declared.form.Form.TheVariants as form
-use Rattle.machine.specs.Meaning.{form_of, HasWords}
+use Rattle.dream_engine.specs.declared.form.Form.{Form}
+use Rattle.dream_engine.specs.declared.form.Form.TheVariants as form
+use Rattle.dream_engine.specs.Form.{form_of, HasWords}
 use Rattle.dream_engine.specs.declared.place.Cause.{Cause}
 use Rattle.dream_engine.specs.declared.place.Cause.TheVariants as cause
 use Rattle.dream_engine.specs.declared.line.Exit.{Exit}
 use Rattle.dream_engine.specs.Place as place
-use Rattle.dream_engine.specs.Place.{Reaches, HasCause, HasNoMeaning, HasNoPlace, NamedPlace, IsLeastPlace, range_place, successors, place_of}
+use Rattle.dream_engine.specs.Place.{Reaches, HasCause, HasNoForm, HasNoPlace, NamedPlace, IsLeastPlace, range_place, successors, place_of}
 use Rattle.dream_engine.specs.Line.{IsAt, GoesOn, StandsAt, BeginsWithout, RefusedBy}
 use Rattle.dream_engine.proofs.Beginning.{one_beginning}
 use Rattle.dream_engine.proofs.Frozen.{entry_inside}

@@ -10,8 +10,8 @@ use Rattle.c_syntax.specs.declared.syntax.CStmt.{CStmt-F, roll-CStmt}
 use Rattle.c_syntax.specs.Spelling.{name_text, num_text}
 use Rattle.c_syntax.specs.Text.{word_text, stmt_text, stmts_text, canonical_text}
 use Rattle.c_syntax.proofs.Layers.{word_text_layer, stmt_text_layer}
-use Rattle.machine.specs.declared.form.Form.{Form}
-use Rattle.machine.specs.declared.form.Form.TheVariants as form
+use Rattle.dream_engine.specs.declared.form.Form.{Form}
+use Rattle.dream_engine.specs.declared.form.Form.TheVariants as form
 use Rattle.dream_engine.specs.declared.line.Exit.{Exit}
 use Rattle.dream_engine.specs.declared.line.Exit.TheVariants as exit
 use Rattle.dream_engine.specs.declared.line.Line.{Line}

@@ -11,9 +11,9 @@ use Rattle.c_syntax.specs.declared.syntax.CFun.{CFun}
 use Rattle.c_syntax.specs.Depth.{word_depth, stmt_depth, stmts_depth}
 use Rattle.c_syntax.specs.Formed.{IsWellFormed, names_word, word_allowed, stmt_allowed, stmts_allowed}
 use Rattle.c_syntax.proofs.Layers.{word_depth_layer, stmt_depth_layer, names_word_layer, stmt_allowed_layer}
-use Rattle.machine.specs.declared.form.Form.{Form}
-use Rattle.machine.specs.declared.form.Form.TheVariants as form
-use Rattle.machine.specs.Meaning.{HasWords}
+use Rattle.dream_engine.specs.declared.form.Form.{Form}
+use Rattle.dream_engine.specs.declared.form.Form.TheVariants as form
+use Rattle.dream_engine.specs.Form.{HasWords}
 use Rattle.dream_engine.specs.declared.line.Exit.{Exit}
 use Rattle.dream_engine.specs.declared.line.Exit.TheVariants as exit
 use Rattle.dream_engine.specs.declared.line.Line.{Line}

@@ -1,3 +1,4 @@
+pub mod Form
 pub mod Place
 pub mod Agreement
 pub mod Line

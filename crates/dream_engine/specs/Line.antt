@@ -7,9 +7,9 @@ use Rattle.dream_words.specs.declared.machine.Name.TheVariants.{Reg}
 use Rattle.x86_inst.specs.declared.Inst.{Inst}
 use Rattle.x86_inst.specs.Spelling.{Spells}
 use Rattle.x86_decode.specs.Decodes.{NoneBegins, IsBegun}
-use Rattle.machine.specs.declared.form.Form.{Form}
-use Rattle.machine.specs.declared.form.Form.TheVariants as form
-use Rattle.machine.specs.Meaning.{form_of, HasWords}
+use Rattle.dream_engine.specs.declared.form.Form.{Form}
+use Rattle.dream_engine.specs.declared.form.Form.TheVariants as form
+use Rattle.dream_engine.specs.Form.{form_of, HasWords}
 use Rattle.machine.specs.Code.{BeginsAt}
 use Rattle.c_syntax.specs.Spelling.{last_digits, name_text, num_text}
 use Rattle.c_syntax.specs.declared.syntax.CBin.TheVariants.{Add}
@@ -60,7 +60,7 @@ pub record BeginsWith (x : List ℕ) (f : Form) (n : ℕ) : Type 0 where
   pub spelled : Spells (take n x) i
   pub form : form_of i ≡ Some f
 
--- the bytes begin with an instruction without a meaning
+-- the bytes begin with an instruction that is none of the four forms
 pub record BeginsWithout (x : List ℕ) : Type 0 where
   pub i : Inst
   pub n : ℕ

@@ -7,9 +7,9 @@ use Rattle.elf_image.specs.Image.{frozen_byte}
 use Rattle.elf_image.specs.Range.{is_inside, bytes_to_end}
 use Rattle.x86_inst.specs.declared.Inst.{Inst}
 use Rattle.x86_decode.specs.Decodes.{NoneBegins, IsBegun}
-use Rattle.machine.specs.declared.form.Form.{Form}
-use Rattle.machine.specs.declared.form.Form.TheVariants as form
-use Rattle.machine.specs.Meaning.{form_of}
+use Rattle.dream_engine.specs.declared.form.Form.{Form}
+use Rattle.dream_engine.specs.declared.form.Form.TheVariants as form
+use Rattle.dream_engine.specs.Form.{form_of}
 use Rattle.machine.specs.Code.{BeginsAt}
 use Rattle.dream_engine.specs.declared.place.Place.{Place}
 use Rattle.dream_engine.specs.declared.place.Cause.{Cause}
@@ -65,8 +65,8 @@ pub data Reaches (m : List Segment) (r : Range) : ℕ → Type 0 where
 
 -- ---- the causes at a reached address
 
--- an instruction begins there that has no meaning yet
-pub record HasNoMeaning (m : List Segment) (r : Range) (a : ℕ) : Type 0 where
+-- an instruction begins there that is none of the four forms
+pub record HasNoForm (m : List Segment) (r : Range) (a : ℕ) : Type 0 where
   pub i : Inst
   pub n : ℕ
   pub begins : BeginsAt m r a i n
@@ -74,9 +74,9 @@ pub record HasNoMeaning (m : List Segment) (r : Range) (a : ℕ) : Type 0 where
 
 -- Instruction: the bytes up to the range's end begin with no spelling and don't begin one.
 -- Straddle: they are a proper front of a spelling.
--- Only of this stage: an instruction without a meaning is a cause as well, and no form is a jump or a call.
+-- Only of this stage: an instruction that is none of the four forms is a cause as well, and no form is a jump or a call.
 abbrev pub HasCause : List Segment → Range → ℕ → Cause → Type 0
-HasCause m r a cause.Instruction = (NoneBegins (bytes_to_end m r a) × (IsBegun (bytes_to_end m r a) → ⊥)) ⊎ HasNoMeaning m r a
+HasCause m r a cause.Instruction = (NoneBegins (bytes_to_end m r a) × (IsBegun (bytes_to_end m r a) → ⊥)) ⊎ HasNoForm m r a
 HasCause m r a cause.Straddle = NoneBegins (bytes_to_end m r a) × IsBegun (bytes_to_end m r a)
 HasCause m r a cause.IndirectJump = ⊥
 HasCause m r a cause.CallInside = ⊥

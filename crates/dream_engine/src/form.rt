@@ -1,11 +1,11 @@
-//! The forms of instructions that have a meaning so far.
+//! The forms of instructions that a straight line is made of. Only of this stage.
 
 ghost use Rattle.std.specs.Prelude.{◌≡◌, IfSome};
-ghost use Rattle.machine.specs.Meaning.{form_of, HasWords};
+ghost use Rattle.dream_engine.specs.Form.{form_of, HasWords};
 
 use x86_inst::{AluOp, Inst, Operand, Size};
 
-/// An instruction whose meaning exists so far. Registers are 0 to 7.
+/// An instruction that a straight line may have. Registers are 0 to 7.
 #[derive(Clone, Copy, PartialEq, Eq)]
 pub enum Form {
     /// `mov r32, imm32`
@@ -19,7 +19,7 @@ pub enum Form {
 }
 
 impl Form {
-    /// The form of an instruction; none where it has no meaning yet.
+    /// The form of an instruction; none where no line takes it yet.
     pub fn of(i: Inst) -> Option<Form>
         ensures value { result ≡ form_of i }
         ensures words { IfSome result HasWords }

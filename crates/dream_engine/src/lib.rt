@@ -6,6 +6,7 @@
 
 mod decompile;
 mod digits;
+mod form;
 mod laws;
 mod line;
 mod place;

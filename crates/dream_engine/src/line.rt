@@ -4,10 +4,10 @@ ghost use Rattle.std.specs.Prelude.{◌≡◌, ◌<◌, ◌^◌, IfOk, OnOk, IfE
 ghost use Rattle.dream_engine.specs.Place.{HasNoPlace, HasNoText};
 ghost use Rattle.dream_engine.specs.Line.{StandsAt, StepIs, GoesOn};
 
+use crate::form::Form;
 use crate::place::{Cause, FlowFault, Place};
 use crate::range_code::range_code;
 use elf_image::{Image, Range};
-use machine::Form;
 use sqlite_items::Items;
 use std::alloc::Global;
 use x86_decode::{Decoded, decode};

@@ -7,8 +7,8 @@ ghost use Rattle.c_syntax.specs.Text.{canonical_text};
 ghost use Rattle.dream_engine.specs.Line.{form_line, end_lines, function_of, head_of};
 
 use crate::digits::eight_digits;
+use crate::form::Form;
 use crate::line::{Exit, Line};
-use machine::Form;
 use std::alloc::{AllocError, Global};
 use std::fmt::Write;
 

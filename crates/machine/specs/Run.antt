@@ -1,17 +1,14 @@
 -- The machine's run: from any start, with any list of answers, one instruction a step.
-use Rattle.std.specs.Prelude.{◌≡◌, ℕ, ◌+◌, ◌%◌, ◌^◌, ◌<◌, Bool, true, false, not, ◌&&◌, ◌||◌, ◌==◌, List, [], ◌∷◌, ◌++◌, Option, Some, None, if◌then◌else◌}
+use Rattle.std.specs.Prelude.{◌≡◌, ℕ, ◌+◌, ◌%◌, ◌^◌, ◌<◌, Bool, true, false, not, ◌&&◌, ◌||◌, ◌==◌, List, [], ◌∷◌, Option, Some, None, if◌then◌else◌}
 use Rattle.elf_image.specs.declared.image.Segment.{Segment}
 use Rattle.elf_image.specs.declared.range.Range.{Range}
 use Rattle.elf_image.specs.Image.{frozen_byte}
 use Rattle.elf_image.specs.Range.{is_inside}
-use Rattle.dream_words.specs.declared.machine.Regs.{Regs}
-use Rattle.dream_words.specs.declared.machine.Flags.{Flags}
 use Rattle.dream_words.specs.declared.outcome.Start.{Start}
 use Rattle.dream_words.specs.declared.outcome.Answer.{Answer}
-use Rattle.dream_words.specs.declared.outcome.Call.{Call}
 use Rattle.dream_words.specs.declared.outcome.Outcome.{Outcome}
 use Rattle.dream_words.specs.declared.outcome.Outcome.TheVariants as outcome
-use Rattle.dream_words.specs.Memory.{Mem, byte_at, store, bytes_of}
+use Rattle.dream_words.specs.Memory.{Mem, byte_at}
 use Rattle.dream_words.specs.Ranges.{AreWords, AreBytes}
 use Rattle.x86_inst.specs.declared.Inst.{Inst}
 use Rattle.x86_inst.specs.declared.Inst.TheVariants as inst

@@ -1,6 +1,6 @@
 use Rattle.std.proofs.Common.{◌≡◌, Some, sym, ◌∙◌}
 use Rattle.std.proofs.lemmas.Bool.{MatchBool-at_true, MatchBool-at_false}
-use Rattle.machine.specs.declared.form.Form.TheVariants as form
+use Rattle.dream_engine.specs.declared.form.Form.TheVariants as form
 use Rattle.dream_engine.proofs.Beginning.{some_bytes}
 use Rattle.dream_engine.proofs.line.step_at.Goals as goal
 
