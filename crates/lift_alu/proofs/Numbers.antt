@@ -13,6 +13,12 @@ low_below bits x = mod_below x (2 ^ bits) (pow_pos bits)
 pub low_same : (bits x : ℕ) → x < 2 ^ bits → low_part bits x ≡ x
 low_same bits x h = mod-eq_of_lt h
 
+pub sum_below : (bits x y : ℕ) (c : Bool) → sum_of bits x y c < 2 ^ bits
+sum_below bits x y c = low_below bits (x + y + bit_of c)
+
+pub difference_below : (bits x y : ℕ) (c : Bool) → difference_of bits x y c < 2 ^ bits
+difference_below bits x y c = low_below bits (low_part bits x + 2 ^ bits - (low_part bits y + bit_of c))
+
 pub word_below : (bits x : ℕ) → IsSize bits → x < 2 ^ bits → x < 2 ^ 32
 word_below bits x size = by_size (λ n. x < 2 ^ n → x < 2 ^ 32) (λ h. omega arith) (λ h. omega arith) (λ h. h) bits size
 

@@ -1,11 +1,12 @@
 -- The values of the words that lifting is made of, from the values of their parts.
 use Rattle.std.proofs.Common.{◌≡◌, ℕ, ◌+◌, ◌-◌, ◌/◌, ◌%◌, ◌^◌, ◌<◌, Bool, true, false, not, nat_eq, nat_le, nat_lt, ◌&&◌, ◌||◌, bit_and, arith, refl, ap, sym, ◌∙◌, Option, Some, None}
 use Rattle.std.specs.Prelude.{bit_xor}
-use Rattle.std.proofs.lemmas.Nat.{and_mask, and_le_l, xor_lt}
+use Rattle.std.proofs.lemmas.Nat.{and_mask, and_shr, xor_shr}
 use Rattle.std.proofs.lemmas.Bool.Decides.{nat_tests}
 use Rattle.std.proofs.Math.Nat.{mod-eq_of_lt}
 use Rattle.dream_words.specs.declared.machine.Name.TheVariants.{Flag}
 use Rattle.dream_words.specs.Words.{IsSize, low_part, sign_bit, bit_of}
+use Rattle.dream_words.specs.Signed.{differ}
 use Rattle.run_parts.specs.World.{Names}
 use Rattle.c_syntax.specs.declared.syntax.CBin.{CBin}
 use Rattle.c_syntax.specs.declared.syntax.CBin.TheVariants.{And, Xor, Shr}
@@ -20,6 +21,31 @@ use Rattle.c_words.specs.Built.{num, name, bin, fn1, pick, cmp, and, or, word_if
 use Rattle.c_words.proofs.Layers.{word_layer, truth_layer}
 use Rattle.lift_alu.specs.Words.{low_word, top_word, flag_set, below_word, below_with_carry_word, overflow_word, zero_word}
 use Rattle.lift_alu.proofs.Sizes.{by_size}
+use Rattle.lift_alu.proofs.Signs.{signs_differ_twice}
+
+-- ---- top bits
+
+top_of : (bits x : ℕ) → IsSize bits → x < 2 ^ bits → x / 2 ^ (bits - 1) ≡ bit_of (sign_bit bits x)
+top_of bits x size =
+    by_size (λ n. x < 2 ^ n → x / 2 ^ (n - 1) ≡ bit_of (sign_bit n x)) (λ h. grind (arith, nat_tests)) (λ h. grind (arith, nat_tests)) (λ h. grind (arith, nat_tests)) bits size
+
+xor_of_bits : (a b : Bool) → bit_xor (bit_of a) (bit_of b) ≡ bit_of (differ a b)
+xor_of_bits true true = refl
+xor_of_bits true false = refl
+xor_of_bits false true = refl
+xor_of_bits false false = refl
+
+and_of_bits : (a b : Bool) → bit_and (bit_of a) (bit_of b) ≡ bit_of (a && b)
+and_of_bits true true = refl
+and_of_bits true false = refl
+and_of_bits false true = refl
+and_of_bits false false = refl
+
+tops_differ : (k w x y z : ℕ) (a b c d : Bool) → w / 2 ^ k ≡ bit_of a → x / 2 ^ k ≡ bit_of b → y / 2 ^ k ≡ bit_of c → z / 2 ^ k ≡ bit_of d
+    → bit_and (bit_xor w x) (bit_xor y z) / 2 ^ k ≡ bit_of (differ a b && differ c d)
+tops_differ k w x y z a b c d e f g h =
+    and_shr (bit_xor w x) (bit_xor y z) k
+    ∙ rw (xor_shr w x k, xor_shr y z k, e, f, g, h, xor_of_bits a b, xor_of_bits c d) (and_of_bits (differ a b) (differ c d))
 
 module _ (v : Names) where
   -- ---- one layer
@@ -61,22 +87,15 @@ module _ (v : Names) where
       (h ∙ ap Some (sym (mod-eq_of_lt small)))
       bits size
 
-  top_8 : (x : ℕ) → x < 2 ^ 8 → x / 2 ^ 7 ≡ bit_of (sign_bit 8 x)
-  top_8 x h = grind (arith, nat_tests)
-
-  top_16 : (x : ℕ) → x < 2 ^ 16 → x / 2 ^ 15 ≡ bit_of (sign_bit 16 x)
-  top_16 x h = grind (arith, nat_tests)
-
-  top_32 : (x : ℕ) → x < 2 ^ 32 → x / 2 ^ 31 ≡ bit_of (sign_bit 32 x)
-  top_32 x h = grind (arith, nat_tests)
+  -- a word shifted to its top bit
+  shifted : (bits : ℕ) (e : CExpr) (x : ℕ) → IsSize bits → word_of e v ≡ Some x → word_of (top_word bits e) v ≡ Some (x / 2 ^ (bits - 1))
+  shifted bits e x size h =
+      by_size (λ n. word_of (top_word n e) v ≡ Some (x / 2 ^ (n - 1)))
+      (bin_value Shr e (num 7) x 7 h (num_value 7)) (bin_value Shr e (num 15) x 15 h (num_value 15)) (bin_value Shr e (num 31) x 31 h (num_value 31))
+      bits size
 
   pub top_value : (bits : ℕ) (e : CExpr) (x : ℕ) → IsSize bits → word_of e v ≡ Some x → x < 2 ^ bits → word_of (top_word bits e) v ≡ Some (bit_of (sign_bit bits x))
-  top_value bits e x size h =
-      by_size (λ n. x < 2 ^ n → word_of (top_word n e) v ≡ Some (bit_of (sign_bit n x)))
-      (λ small. bin_value Shr e (num 7) x 7 h (num_value 7) ∙ ap Some (top_8 x small))
-      (λ small. bin_value Shr e (num 15) x 15 h (num_value 15) ∙ ap Some (top_16 x small))
-      (λ small. bin_value Shr e (num 31) x 31 h (num_value 31) ∙ ap Some (top_32 x small))
-      bits size
+  top_value bits e x size h small = shifted bits e x size h ∙ ap Some (top_of bits x size small)
 
   pub zero_value : (e : CExpr) (x : ℕ) → word_of e v ≡ Some x → word_of (zero_word e) v ≡ Some (bit_of (nat_eq x 0))
   zero_value e x h = word_if_value (cmp Eq e (num 0)) (nat_eq x 0) (cmp_value Eq e (num 0) x 0 h (num_value 0))
@@ -95,8 +114,9 @@ module _ (v : Names) where
       (and_value (cmp Eq a b) (flag_set 0) (nat_eq x y) (not (nat_eq (v (Flag 0)) 0)) (cmp_value Eq a b x y h k) (set_value 0)))
 
   pub overflow_value : (bits : ℕ) (a b c d : CExpr) (w x y z : ℕ) → IsSize bits → word_of a v ≡ Some w → word_of b v ≡ Some x → word_of c v ≡ Some y → word_of d v ≡ Some z
-      → w < 2 ^ bits → x < 2 ^ bits → word_of (overflow_word bits a b c d) v ≡ Some (bit_of (sign_bit bits (bit_and (bit_xor w x) (bit_xor y z))))
-  overflow_value bits a b c d w x y z size h i j k p q =
-      let small : bit_and (bit_xor w x) (bit_xor y z) < 2 ^ bits = omega (arith, and_le_l (bit_xor w x) (bit_xor y z), xor_lt bits w x p q) in
-      top_value bits (bin And (bin Xor a b) (bin Xor c d)) (bit_and (bit_xor w x) (bit_xor y z)) size
-      (bin_value And (bin Xor a b) (bin Xor c d) (bit_xor w x) (bit_xor y z) (bin_value Xor a b w x h i) (bin_value Xor c d y z j k)) small
+      → w < 2 ^ bits → x < 2 ^ bits → y < 2 ^ bits → z < 2 ^ bits → word_of (overflow_word bits a b c d) v ≡ Some (bit_of (signs_differ_twice bits w x y z))
+  overflow_value bits a b c d w x y z size h i j k p q r s =
+      shifted bits (bin And (bin Xor a b) (bin Xor c d)) (bit_and (bit_xor w x) (bit_xor y z)) size
+      (bin_value And (bin Xor a b) (bin Xor c d) (bit_xor w x) (bit_xor y z) (bin_value Xor a b w x h i) (bin_value Xor c d y z j k))
+      ∙ ap Some (tops_differ (bits - 1) w x y z (sign_bit bits w) (sign_bit bits x) (sign_bit bits y) (sign_bit bits z)
+      (top_of bits w size p) (top_of bits x size q) (top_of bits y size r) (top_of bits z size s))
