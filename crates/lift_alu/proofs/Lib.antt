@@ -1,0 +1,7 @@
+mod Sizes
+mod Signs
+mod Values
+mod Numbers
+mod Given
+pub mod Operations
+pub mod Truths
