@@ -1,5 +1,5 @@
 -- When blocks are those of an instruction: they have its effect, are never stuck, and lead to its successors.
-use Rattle.std.specs.Prelude.{◌≡◌, ℕ, ◌+◌, ◌<◌, nat_lt, Bool, true, false, List, [], ◌∷◌, length, slice_get, Some, IsTrue, MatchBool, if◌then◌else◌}
+use Rattle.std.specs.Prelude.{◌≡◌, ℕ, ◌+◌, ◌<◌, nat_lt, Bool, List, [], ◌∷◌, length, slice_get, Some, IsTrue, MatchBool, if◌then◌else◌}
 use Rattle.dream_words.specs.declared.machine.Flags.{Flags}
 use Rattle.x86_inst.specs.declared.Inst.{Inst}
 use Rattle.x86_inst.specs.declared.Inst.TheVariants as i

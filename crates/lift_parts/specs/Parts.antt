@@ -1,7 +1,6 @@
 -- The words and statements of which blocks are made: those that read an operand, that are its value, and that write it.
 -- The local t0 has the word that is read, and t1 the second one.
-use Rattle.std.specs.Prelude.{ℕ, ◌+◌, ◌-◌, nat_lt, Bool, true, false, if◌then◌else◌, List, [], ◌∷◌, ◌++◌, Option, Some, None}
-use Rattle.dream_words.specs.declared.machine.Name.{Name}
+use Rattle.std.specs.Prelude.{ℕ, ◌-◌, nat_lt, if◌then◌else◌, List, [], ◌∷◌, Option, Some, None}
 use Rattle.dream_words.specs.declared.machine.Name.TheVariants.{Reg, Flag, Fs, Gs, T}
 use Rattle.dream_words.specs.Words.{low_part}
 use Rattle.x86_inst.specs.declared.Size.{Size}
