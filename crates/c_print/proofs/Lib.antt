@@ -1,0 +1,3 @@
+pub mod Shows
+mod Hexadecimals
+pub mod Words
