@@ -1,3 +1,8 @@
 pub mod Shows
 mod Hexadecimals
-pub mod Words
+mod Words
+mod Stmts
+pub mod Texts
+mod Levels
+pub mod Loops
+mod Functions

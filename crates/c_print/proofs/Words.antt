@@ -14,7 +14,6 @@ use Rattle.c_syntax.specs.declared.syntax.CCond.TheVariants as cond
 use Rattle.c_syntax.specs.Spelling.{op_text, cmp_text, fn1_text, fn2_text, fn3_text}
 use Rattle.c_syntax.specs.Text.{between, word_text, cond_text}
 use Rattle.c_syntax.proofs.Layers.{word_text_layer, cond_text_layer}
-use Rattle.c_print.proofs.Shows.{puts-append}
 
 pub word_not : (a : CExpr) → word_text (word.Not a) ≡ codes "(~" ++ word_text a ++ codes ")"
 word_not a = ap word_text (sym (word.rolls-Not a)) ∙ word_text_layer (CExpr-F.«CExpr::Not» a)
@@ -46,4 +45,3 @@ cond_and c d = ap cond_text (sym (cond.rolls-And c d)) ∙ cond_text_layer (CCon
 pub cond_or : (c d : CCond) → cond_text (Or c d) ≡ codes "(" ++ between (cond_text c) (codes "||") (cond_text d) ++ codes ")"
 cond_or c d = ap cond_text (sym (cond.rolls-Or c d)) ∙ cond_text_layer (CCond-F.Or c d)
 
-pub ruleset texts = (puts-append, word_not, word_bin, word_fn1, word_fn2, word_fn3, word_pick, cond_cmp, cond_not, cond_and, cond_or)
