@@ -8,7 +8,7 @@ use Rattle.c_syntax.specs.declared.syntax.CStmt.{CStmt}
 use Rattle.c_syntax.specs.declared.syntax.CFun.{CFun}
 use Rattle.c_syntax.specs.Spelling.{decimal, name_text, function_text}
 use Rattle.c_syntax.specs.Text.{Text, line, all, stmt_text, stmts_text, decls_text, canonical_text}
-use Rattle.c_print.specs.Page.{Shown, puts, blank, uncounted}
+use Rattle.c_print.specs.Page.{Shown, puts, keeping_page, counting_page}
 use Rattle.c_print.proofs.Shows.{then, keeps, puts-counting, puts-keeping}
 
 -- one declaration more
@@ -45,11 +45,11 @@ put_whole f a b c d e g h i j pb pc pd pe pg ph pi pj =
     (pi ∙ ap (puts h) (stmts_are f.body 1))) pj
 
 -- the count of a page that only counts
-pub counts_all : (t : Text) (s p : Shown) (n : ℕ) → s ≡ uncounted → p ≡ puts s t → n ≡ p.count → n ≡ min (length t) (2 ^ 64 - 1)
+pub counts_all : (t : Text) (s p : Shown) (n : ℕ) → s ≡ counting_page → p ≡ puts s t → n ≡ p.count → n ≡ min (length t) (2 ^ 64 - 1)
 counts_all t s p n e f g =
     g ∙ ap (λ (q : Shown). q.count) (f ∙ ap (λ q. puts q t) e ∙ puts-counting 0 0 t (omega arith)) ∙ ap (λ k. min k (2 ^ 64 - 1)) (let z : 0 + length t ≡ length t = omega arith in z)
 
 -- the bytes of a page that has room for all of them
-pub keeps_all : (t : Text) (s p : Shown) (n : ℕ) → n ≡ min (length t) (2 ^ 64 - 1) → n < 2 ^ 63 → s ≡ blank n → p ≡ puts s t → p.kept ≡ Some t
+pub keeps_all : (t : Text) (s p : Shown) (n : ℕ) → n ≡ min (length t) (2 ^ 64 - 1) → n < 2 ^ 63 → s ≡ keeping_page n → p ≡ puts s t → p.kept ≡ Some t
 keeps_all t s p n e l f g =
     ap (λ (q : Shown). q.kept) (g ∙ ap (λ q. puts q t) f ∙ puts-keeping 0 n n [] t (omega arith) (omega arith)) ∙ ap Some (take_all n t (omega (arith, e, l)))

@@ -1,14 +1,12 @@
 -- What a page shows after texts.
 use Rattle.std.proofs.Common.{◌≡◌, ℕ, ◌+◌, ◌-◌, ◌^◌, zero, suc, ◌<◌, ◌≤◌, min, Bool, true, false, cond, List, [], ◌∷◌, ◌++◌, length, take, Option, Some, None, refl, ap, sym, ◌∙◌, arith, length-append, append_assoc, append-nil}
 use borrow.Author.Tests.{lt-ltb, le-ltb}
-use Rattle.c_print.specs.Page.{Shown, with_byte, keeping, puts}
+use Rattle.c_print.specs.Page.{Shown, with_byte, kept_with, puts}
 
 -- two texts one after the other
 pub puts-append : (s : Shown) (x y : List ℕ) → puts s (x ++ y) ≡ puts (puts s x) y
 puts-append s [] y = refl
 puts-append s (b ∷ x) y = puts-append (with_byte s b) x y
-
-
 
 -- one text after another, where what the page showed between is named
 pub then : (s t u : Shown) (x y : List ℕ) → t ≡ puts s x → u ≡ puts t y → u ≡ puts s (x ++ y)
@@ -26,11 +24,11 @@ puts-counting c r (b ∷ x) h =
     ∙ ap (λ n. record { count = n; room = r; kept = None }) (omega arith)
 
 -- a page that keeps bytes: it is full, or has room for one more
-keeping_full : (r b : ℕ) (k : List ℕ) → r ≡ length k + 0 → keeping r b k ≡ k
-keeping_full r b k e = ap (λ t. cond t (k ++ b ∷ []) k) (le-ltb (length k) r (omega (arith, e)))
+full_keeps : (r b : ℕ) (k : List ℕ) → r ≡ length k + 0 → kept_with r b k ≡ k
+full_keeps r b k e = ap (λ t. cond t (k ++ b ∷ []) k) (le-ltb (length k) r (omega (arith, e)))
 
-keeping_room : (r b m : ℕ) (k : List ℕ) → r ≡ length k + suc m → keeping r b k ≡ k ++ b ∷ []
-keeping_room r b m k e = ap (λ t. cond t (k ++ b ∷ []) k) (lt-ltb (length k) r (omega (arith, e)))
+room_keeps : (r b m : ℕ) (k : List ℕ) → r ≡ length k + suc m → kept_with r b k ≡ k ++ b ∷ []
+room_keeps r b m k e = ap (λ t. cond t (k ++ b ∷ []) k) (lt-ltb (length k) r (omega (arith, e)))
 
 abbrev pub keeps : ℕ → ℕ → List ℕ → Shown
 keeps c r k = record { count = c; room = r; kept = Some k }
@@ -46,11 +44,11 @@ unfolding with_byte
 puts-keeping c r zero k [] h e = ap (λ n. keeps n r k) (omega arith) ∙ ap (λ t. keeps (min (c + 0) (2 ^ 64 - 1)) r t) (sym (append-nil k))
 puts-keeping c r (suc m) k [] h e = ap (λ n. keeps n r k) (omega arith) ∙ ap (λ t. keeps (min (c + 0) (2 ^ 64 - 1)) r t) (sym (append-nil k))
 puts-keeping c r zero k (b ∷ x) h e =
-    ap (λ t. puts (keeps (min (c + 1) (2 ^ 64 - 1)) r t) x) (keeping_full r b k e)
+    ap (λ t. puts (keeps (min (c + 1) (2 ^ 64 - 1)) r t) x) (full_keeps r b k e)
     ∙ puts-keeping (min (c + 1) (2 ^ 64 - 1)) r zero k x (omega arith) e
     ∙ ap (λ n. keeps n r (k ++ [])) (count_more c (length x))
 puts-keeping c r (suc m) k (b ∷ x) h e =
-    ap (λ t. puts (keeps (min (c + 1) (2 ^ 64 - 1)) r t) x) (keeping_room r b m k e)
+    ap (λ t. puts (keeps (min (c + 1) (2 ^ 64 - 1)) r t) x) (room_keeps r b m k e)
     ∙ puts-keeping (min (c + 1) (2 ^ 64 - 1)) r m (k ++ b ∷ []) x (omega arith) (one_more r m b k e)
     ∙ ap (λ n. keeps n r ((k ++ b ∷ []) ++ take m x)) (count_more c (length x))
     ∙ ap (λ t. keeps (min (c + suc (length x)) (2 ^ 64 - 1)) r t) (append_assoc k (b ∷ []) (take m x))

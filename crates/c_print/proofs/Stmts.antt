@@ -37,7 +37,7 @@ stmt_if_some arms last l = ap (λ s. stmt_text s l) (sym (stmt.rolls-If arms (So
 
 pub stmt_switch : (e : CExpr) (groups : List CGroup) (last : List CStmt) (l : ℕ)
     → stmt_text (Switch e groups last) l ≡ line l (codes "switch (" ++ word_text e ++ codes ") {") ++ all (map group_text groups) l
-      ++ line l (codes "default: " ++ body_text (map stmt_text last) l ++ codes " break;") ++ line l (codes "}")
+    ++ line l (codes "default: " ++ body_text (map stmt_text last) l ++ codes " break;") ++ line l (codes "}")
 stmt_switch e groups last l = ap (λ s. stmt_text s l) (sym (stmt.rolls-Switch e groups last)) ∙ ap (λ (g : Lines). g l) (stmt_text_layer (CStmt-F.Switch e groups last))
 
 pub stmt_loop : (body : List CStmt) (l : ℕ) → stmt_text (Loop body) l ≡ line l (codes "while (1) " ++ body_text (map stmt_text body) l)

@@ -44,4 +44,3 @@ cond_and c d = ap cond_text (sym (cond.rolls-And c d)) ∙ cond_text_layer (CCon
 
 pub cond_or : (c d : CCond) → cond_text (Or c d) ≡ codes "(" ++ between (cond_text c) (codes "||") (cond_text d) ++ codes ")"
 cond_or c d = ap cond_text (sym (cond.rolls-Or c d)) ∙ cond_text_layer (CCond-F.Or c d)
-

@@ -9,20 +9,20 @@ pub record Shown : Type 0 where
   pub kept : Option (List ℕ)
 
 -- a page that only counts, before anything is put
-abbrev pub uncounted : Shown
-uncounted = record { count = 0; room = 0; kept = None }
+abbrev pub counting_page : Shown
+counting_page = record { count = 0; room = 0; kept = None }
 
--- a page that keeps so many bytes, before anything is put
-abbrev pub blank : ℕ → Shown
-blank room = record { count = 0; room = room; kept = Some [] }
+-- a page that keeps up to so many bytes, before anything is put
+abbrev pub keeping_page : ℕ → Shown
+keeping_page room = record { count = 0; room = room; kept = Some [] }
 
--- one more byte is kept, where there is room
-abbrev pub keeping : ℕ → ℕ → List ℕ → List ℕ
-keeping room b kept = if nat_lt (length kept) room then kept ++ b ∷ [] else kept
+-- the bytes that are kept, with one more where there is room
+abbrev pub kept_with : ℕ → ℕ → List ℕ → List ℕ
+kept_with room b kept = if nat_lt (length kept) room then kept ++ b ∷ [] else kept
 
 -- a page on which one more byte is put
 unfoldable pub with_byte : Shown → ℕ → Shown
-with_byte s b = record { count = min (s.count + 1) (2 ^ 64 - 1); room = s.room; kept = option_map (keeping s.room b) s.kept }
+with_byte s b = record { count = min (s.count + 1) (2 ^ 64 - 1); room = s.room; kept = option_map (kept_with s.room b) s.kept }
 
 -- a page on which the bytes of a text are put, one after another
 abbrev pub puts : Shown → List ℕ → Shown

@@ -65,7 +65,7 @@ pub fn print(alloc: Global, f: &CFun) -> Result<Vec<u8>, AllocError>
     if len >= 1 << 63 {
         return Err(AllocError);
     }
-    let mut page = Page::with_room(alloc, len as usize)?;
+    let mut page = Page::keeping(alloc, len as usize)?;
     put_fun(f, &mut page);
     Ok(page.into_text())
 }

@@ -2,7 +2,7 @@
 
 ghost use Rattle.std.specs.Prelude.{◌≡◌, ◌≤◌, ◌-◌, ◌++◌, length, take, vec_capacity, IfOk, IsSome, Some, option_map};
 ghost use Rattle.std.specs.Option.{ForSome};
-ghost use Rattle.c_print.specs.Page.{Shown, puts, blank, uncounted};
+ghost use Rattle.c_print.specs.Page.{Shown, puts, keeping_page, counting_page};
 
 use std::alloc::{AllocError, Global};
 use std::marker::Model;
@@ -20,9 +20,9 @@ impl Model for Page {
     ghost Value = { Shown };
 
     ghost view = { λ p. record {
-        count = p.count;
-        room = p.room;
-        kept = option_map (λ v. v.items) p.text;
+      count = p.count;
+      room = p.room;
+      kept = option_map (λ v. v.items) p.text;
     } };
 
     ghost invariant = { λ p.
@@ -32,7 +32,7 @@ impl Model for Page {
 impl Page {
     /// A page that only counts.
     pub(crate) fn counting() -> Page
-        ensures { result ≡ uncounted }
+        ensures { result ≡ counting_page }
     {
         Page {
             count: 0,
@@ -42,8 +42,8 @@ impl Page {
     }
 
     /// A page that keeps up to so many bytes. No more memory is asked for later.
-    pub(crate) fn with_room(alloc: Global, room: usize) -> Result<Page, AllocError>
-        ensures { IfOk result (λ page. page ≡ blank room) }
+    pub(crate) fn keeping(alloc: Global, room: usize) -> Result<Page, AllocError>
+        ensures { IfOk result (λ page. page ≡ keeping_page room) }
     {
         let text = Vec::with_capacity(alloc, room)?;
         Ok(Page {
@@ -86,8 +86,7 @@ impl Page {
 fn keep(text: &mut Vec<u8>, room: usize, piece: &[u8])
     requires full { length text.old.items ≤ room }
     requires reserved { room ≤ vec_capacity text.old }
-    ensures items {
-        text.new.items ≡ text.old.items ++ take (room - length text.old.items) piece.now }
+    ensures items { text.new.items ≡ text.old.items ++ take (room - length text.old.items) piece.now }
     ensures full { length text.new.items ≤ room }
     ensures reserved { room ≤ vec_capacity text.new }
 {

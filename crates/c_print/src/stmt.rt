@@ -195,7 +195,7 @@ fn put_else(last: &[CStmt], level: u32, page: &mut Page)
 fn put_default(last: &[CStmt], level: u32, page: &mut Page)
     ensures { page.new ≡ puts page.old
         (indent level ++ codes "default: " ++ body_text (map stmt_text last.now) level
-            ++ codes " break;\n" ++ indent level ++ codes "}\n") }
+        ++ codes " break;\n" ++ indent level ++ codes "}\n") }
 {
     put_indent(level, page);
     page.put(b"default: ");

@@ -6,7 +6,7 @@ use Rattle.c_print.proofs.page.Page.put.Goals.{in-Some, in_default}
 
 pub returns : goal.returns
 returns c = elim c.match-self.branch [
-    in-Some w ↦
+  | in-Some w ↦
       let was = ap (λ t. the_view (record c.self.inside { text = t })) (sym w.in-Some.is) ∙ c.self.view_is in
       ap the_view w.self-inside-is
       ∙ put_kept c.self.inside.count _ _ w.in-Some.text.items _ _ _ (omega arith) (omega arith) c.saturating_add-self-inside.ensures w.keep.ensures.items was
@@ -14,4 +14,5 @@ returns c = elim c.match-self.branch [
       let was = ap (λ t. the_view (record c.self.inside { text = t })) (sym w.in_default.is) ∙ c.self.view_is in
       ap the_view w.self-inside-is
       ∙ ap (λ t. the_view (record { count = c.saturating_add-self-inside.result; room = c.self.inside.room; text = t })) w.in_default.is
-      ∙ put_counted c.self.inside.count _ _ c.args.piece.now _ (omega arith) c.saturating_add-self-inside.ensures was ]
+      ∙ put_counted c.self.inside.count _ _ c.args.piece.now _ (omega arith) c.saturating_add-self-inside.ensures was
+]
