@@ -5,7 +5,6 @@ pub mod LineSteps
 mod LineRuns
 mod LineOfC
 mod LineAgrees
-mod Texts
 mod WellFormed
 pub mod OnePlaces
 mod Forms

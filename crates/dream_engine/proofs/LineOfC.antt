@@ -22,7 +22,8 @@ use Rattle.c_syntax.specs.Run.{run_all, word_in}
 use Rattle.c_syntax.proofs.Layers.{word_of_layer, run_layer}
 use Rattle.dream_engine.specs.declared.line.Exit.{Exit}
 use Rattle.dream_engine.specs.declared.line.Exit.TheVariants as exit
-use Rattle.dream_engine.specs.Line.{GoesOn, num, reg, sum_of, set, return, stmt_of, end_of, body_of}
+use Rattle.c_words.specs.Built.{num}
+use Rattle.dream_engine.specs.Line.{GoesOn, reg, sum_of, set, return, stmt_of, end_of, body_of}
 use Rattle.dream_engine.proofs.LineRuns.{assigned, all_assigned}
 
 num_is : (n : ℕ) (v : Names) → word_of (num n) v ≡ Some n

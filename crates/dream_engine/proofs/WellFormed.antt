@@ -17,7 +17,8 @@ use Rattle.dream_engine.specs.Form.{HasWords}
 use Rattle.dream_engine.specs.declared.line.Exit.{Exit}
 use Rattle.dream_engine.specs.declared.line.Exit.TheVariants as exit
 use Rattle.dream_engine.specs.declared.line.Line.{Line}
-use Rattle.dream_engine.specs.Line.{num, reg, sum_of, set, return, stmt_of, end_of, body_of, function_of, StandsAt}
+use Rattle.c_words.specs.Built.{num}
+use Rattle.dream_engine.specs.Line.{reg, sum_of, set, return, stmt_of, end_of, body_of, function_of, StandsAt}
 
 num_depth : (n : ℕ) → word_depth (num n) ≡ 1
 num_depth n = word_depth_layer (CExpr-F.Num n)

@@ -1,5 +1,5 @@
 -- A straight line of forms, as code and as C. Only of this stage.
-use Rattle.std.specs.Prelude.{◌≡◌, ◌⊎◌, ℕ, ◌+◌, ◌%◌, ◌^◌, ◌<◌, ◌≤◌, true, false, List, [], ◌∷◌, ◌++◌, codes, length, take, Some, None}
+use Rattle.std.specs.Prelude.{◌≡◌, ◌⊎◌, ℕ, ◌+◌, ◌%◌, ◌^◌, ◌<◌, ◌≤◌, true, false, List, [], ◌∷◌, ◌++◌, length, map, take, Some, None}
 use Rattle.elf_image.specs.declared.image.Segment.{Segment}
 use Rattle.elf_image.specs.declared.range.Range.{Range}
 use Rattle.elf_image.specs.Range.{is_inside}
@@ -11,9 +11,9 @@ use Rattle.dream_engine.specs.declared.form.Form.{Form}
 use Rattle.dream_engine.specs.declared.form.Form.TheVariants as form
 use Rattle.dream_engine.specs.Form.{form_of, HasWords}
 use Rattle.machine.specs.Code.{BeginsAt}
-use Rattle.c_syntax.specs.Spelling.{last_digits, name_text, num_text}
 use Rattle.c_syntax.specs.declared.syntax.CBin.TheVariants.{Add}
-use Rattle.c_syntax.specs.declared.syntax.CExpr.{CExpr, CExpr-F, roll-CExpr}
+use Rattle.c_syntax.specs.declared.syntax.CExpr.{CExpr}
+use Rattle.c_words.specs.Built.{num, name, bin}
 use Rattle.c_syntax.specs.declared.syntax.CStmt.{CStmt, CStmt-F, roll-CStmt}
 use Rattle.c_syntax.specs.declared.syntax.CFun.{CFun}
 use Rattle.dream_engine.specs.declared.line.Exit.{Exit}
@@ -84,14 +84,11 @@ StepIs x (step.Refused why) = RefusedBy why x
 
 -- ---- its C
 
-abbrev pub num : ℕ → CExpr
-num n = roll-CExpr (CExpr-F.Num n)
-
 abbrev pub reg : ℕ → CExpr
-reg n = roll-CExpr (CExpr-F.Name (Reg n))
+reg n = name (Reg n)
 
 abbrev pub sum_of : CExpr → CExpr → CExpr
-sum_of a b = roll-CExpr (CExpr-F.Bin Add a b)
+sum_of a b = bin Add a b
 
 abbrev pub set : ℕ → CExpr → CStmt
 set n e = roll-CStmt (CStmt-F.Set (Reg n) e)
@@ -112,25 +109,7 @@ end_of exit.Return = set 4 (sum_of (reg 4) (num 4)) ∷ return ∷ []
 end_of (exit.Leave to) = roll-CStmt (CStmt-F.Ext (num to)) ∷ return ∷ []
 
 abbrev pub body_of : List Form → Exit → List CStmt
-body_of [] e = end_of e
-body_of (f ∷ fs) e = stmt_of f ∷ body_of fs e
+body_of fs e = map stmt_of fs ++ end_of e
 
 abbrev pub function_of : ℕ → Line → CFun
 function_of entry l = record { address = entry; temps = 0; bools = 0; selectors = 0; body = body_of l.forms l.exit }
-
--- the text up to the first statement
-abbrev pub head_of : ℕ → List ℕ
-head_of entry = codes "#include \"dream386.h\"\n\nvoid f_" ++ last_digits 8 entry ++ codes "(void)\n{\n"
-
--- the line of a form, at the first level
-abbrev pub form_line : Form → List ℕ
-form_line (form.SetTo to value) = codes "  " ++ (name_text (Reg to) ++ codes " = " ++ num_text value ++ codes ";") ++ codes "\n"
-form_line (form.Move to from) = codes "  " ++ (name_text (Reg to) ++ codes " = " ++ name_text (Reg from) ++ codes ";") ++ codes "\n"
-form_line (form.Add to from) =
-    codes "  " ++ (name_text (Reg to) ++ codes " = " ++ (codes "(" ++ (name_text (Reg to) ++ codes " " ++ codes "+" ++ codes " " ++ name_text (Reg from)) ++ codes ")") ++ codes ";") ++ codes "\n"
-form_line form.Return = codes "  return;\n"
-
--- the lines of the end
-abbrev pub end_lines : Exit → List ℕ
-end_lines exit.Return = codes "  esp = (esp + 0x4u);\n  return;\n"
-end_lines (exit.Leave to) = (codes "  " ++ (codes "ext(" ++ num_text to ++ codes ");") ++ codes "\n") ++ codes "  return;\n"

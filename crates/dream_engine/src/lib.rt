@@ -5,15 +5,13 @@
 #![tactic(auto)]
 
 mod decompile;
-mod digits;
 mod form;
+mod function;
 mod laws;
 mod line;
 mod place;
 mod range_code;
-mod text;
 
 pub use decompile::decompile_one;
-pub use digits::eight_digits;
 pub use laws::one_place;
 pub use place::{Cause, FlowFault, Place};
