@@ -7,8 +7,6 @@ mod build;
 mod copy;
 mod same;
 
-pub use build::{
-    and, bin, cmp, cond_not, fn1, fn2, fn3, name, num, or, pick, word_if, word_not,
-};
+pub use build::{and, bin, cmp, cond_not, fn1, fn2, fn3, name, num, or, pick, word_if, word_not};
 pub use copy::{copy_cond, copy_word};
 pub use same::{same_cond, same_word};

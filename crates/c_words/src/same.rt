@@ -21,10 +21,15 @@ pub fn same_word(e: &CExpr, f: &CExpr) -> bool
             *o == *p && same_word(a.get(), c.get()) && same_word(b.get(), d.get())
         }
         (CExpr::Fn3(o, a, b, x), CExpr::Fn3(p, c, d, y)) => {
-            *o == *p && same_word(a.get(), c.get()) && same_word(b.get(), d.get()) && same_word(x.get(), y.get())
+            *o == *p
+                && same_word(a.get(), c.get())
+                && same_word(b.get(), d.get())
+                && same_word(x.get(), y.get())
         }
         (CExpr::Pick(t, a, b), CExpr::Pick(u, c, d)) => {
-            same_cond(t.get(), u.get()) && same_word(a.get(), c.get()) && same_word(b.get(), d.get())
+            same_cond(t.get(), u.get())
+                && same_word(a.get(), c.get())
+                && same_word(b.get(), d.get())
         }
         _ => false,
     }
@@ -36,10 +41,14 @@ pub fn same_cond(t: &CCond, u: &CCond) -> bool
     ensures { IsTrue result ↔ (t.now ≡ u.now) }
 {
     match (t, u) {
-        (CCond::Cmp(o, a, b), CCond::Cmp(p, c, d)) => *o == *p && same_word(a, c) && same_word(b, d),
+        (CCond::Cmp(o, a, b), CCond::Cmp(p, c, d)) => *o == *p
+            && same_word(a, c)
+            && same_word(b, d),
         (CCond::Not(t), CCond::Not(u)) => same_cond(t.get(), u.get()),
-        (CCond::And(t, a), CCond::And(u, b)) => same_cond(t.get(), u.get()) && same_cond(a.get(), b.get()),
-        (CCond::Or(t, a), CCond::Or(u, b)) => same_cond(t.get(), u.get()) && same_cond(a.get(), b.get()),
+        (CCond::And(t, a), CCond::And(u, b)) => same_cond(t.get(), u.get())
+            && same_cond(a.get(), b.get()),
+        (CCond::Or(t, a), CCond::Or(u, b)) => same_cond(t.get(), u.get())
+            && same_cond(a.get(), b.get()),
         _ => false,
     }
 }

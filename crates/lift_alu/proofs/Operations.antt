@@ -114,7 +114,7 @@ module _ (v : Names) (bits : ℕ) (size : IsSize bits) where
 pub alu_lifts : (op : AluOp) (bits : ℕ) (a b : CExpr) → IsSize bits → LiftsAlu op bits a b (alu_words op bits a b)
 alu_lifts op bits a b size = record {
   effect = λ v x y c e f p q carry.
-    part_lift v bits size (low_word bits a) (low_word bits b) (low_part bits x) (low_part bits y) (low_value v bits a x size e p) (low_value v bits b y size f q) (low_below bits x) (low_below bits y) op c carry;
+      part_lift v bits size (low_word bits a) (low_word bits b) (low_part bits x) (low_part bits y) (low_value v bits a x size e p) (low_value v bits b y size f q) (low_below bits x) (low_below bits y) op c carry;
   never_stuck = λ v x y e f. alu_gives v bits size op a b x y e f;
 }
 

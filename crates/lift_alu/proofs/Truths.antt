@@ -83,9 +83,11 @@ module _ (v : Names) where
   differ_truth s o h k = (not (nat_eq (v (Flag 3)) (v (Flag 4))), differ_value, differ_known s o (v (Flag 3)) (v (Flag 4)) h k)
 
   agree_truth : (s o : Bit) → StandsFor s (v (Flag 3)) → StandsFor o (v (Flag 4)) → Truth v signs_agree (opposite (both differ (known s) (known o)))
-  agree_truth s o h k =
-      (nat_eq (v (Flag 3)) (v (Flag 4)), agree_value,
-        opposite_known (both differ (known s) (known o)) (not (nat_eq (v (Flag 3)) (v (Flag 4)))) (nat_eq (v (Flag 3)) (v (Flag 4))) (differ_known s o (v (Flag 3)) (v (Flag 4)) h k) (not_twice (nat_eq (v (Flag 3)) (v (Flag 4)))))
+  agree_truth s o h k = (
+    nat_eq (v (Flag 3)) (v (Flag 4)),
+    agree_value,
+    opposite_known (both differ (known s) (known o)) (not (nat_eq (v (Flag 3)) (v (Flag 4)))) (nat_eq (v (Flag 3)) (v (Flag 4))) (differ_known s o (v (Flag 3)) (v (Flag 4)) h k) (not_twice (nat_eq (v (Flag 3)) (v (Flag 4)))),
+  )
 
   -- one of two conditions, and neither
   either_truth : (t u : CCond) (a b : Option Bool) → Truth v t a → Truth v u b → Truth v (or t u) (both either a b)
@@ -139,7 +141,7 @@ number_modulo n f =
 pub cond_truth : (n : ℕ) → HasTruth n (cond_words n)
 cond_truth n = record {
   truth = λ v f stand.
-    subst (λ o. Truth v (row_words (n % 16)) o) (number_modulo n f) (row_truth v f stand (n % 16) (mod_below n 16 (lit< tt)));
+      subst (λ o. Truth v (row_words (n % 16)) o) (number_modulo n f) (row_truth v f stand (n % 16) (mod_below n 16 (lit< tt)));
 }
 
 -- a condition that is made so

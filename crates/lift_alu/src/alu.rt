@@ -26,7 +26,12 @@ pub struct AluLift {
 
 /// The words of an operation on the low bits of two words. `Adc` and `Sbb` read the carry flag's
 /// word; for `Cmp` the result is the difference.
-pub fn lift_alu<const BITS: u32>(alloc: Global, op: AluOp, a: Expr, b: Expr) -> Result<AluLift, AllocError>
+pub fn lift_alu<const BITS: u32>(
+    alloc: Global,
+    op: AluOp,
+    a: Expr,
+    b: Expr,
+) -> Result<AluLift, AllocError>
     requires { IsSize BITS }
     ensures words { IfOk result (λ l. l ≡ alu_words op BITS a b) }
     ensures lifts { IfOk result (λ l. LiftsAlu op BITS a b l) }
@@ -36,7 +41,12 @@ pub fn lift_alu<const BITS: u32>(alloc: Global, op: AluOp, a: Expr, b: Expr) -> 
     on_parts::<BITS>(alloc, op, &x, &y)
 }
 
-fn on_parts<const BITS: u32>(alloc: Global, op: AluOp, x: &Expr, y: &Expr) -> Result<AluLift, AllocError>
+fn on_parts<const BITS: u32>(
+    alloc: Global,
+    op: AluOp,
+    x: &Expr,
+    y: &Expr,
+) -> Result<AluLift, AllocError>
     requires { IsSize BITS }
     ensures { IfOk result (λ l. l ≡ part_words op BITS x.now y.now) }
 {
@@ -88,7 +98,10 @@ fn sbb<const BITS: u32>(alloc: Global, x: &Expr, y: &Expr) -> Result<AluLift, Al
     ensures { IfOk result (λ l. l ≡ sbb_words BITS x.now y.now) }
 {
     let difference = joined(alloc, Bin::Sub, x, y)?;
-    let r = low::<BITS>(alloc, bin(alloc, Bin::Sub, difference, name(Name::Flag(0)))?)?;
+    let r = low::<BITS>(
+        alloc,
+        bin(alloc, Bin::Sub, difference, name(Name::Flag(0)))?,
+    )?;
     let c = below_with_carry(alloc, x, y)?;
     let o = overflow::<BITS>(alloc, x, y, x, &r)?;
     with_flags::<BITS>(alloc, r, c, o)
@@ -103,7 +116,12 @@ fn logic<const BITS: u32>(alloc: Global, op: Bin, x: &Expr, y: &Expr) -> Result<
 }
 
 // A result with its flags, of which the carry and the overflow are given.
-fn with_flags<const BITS: u32>(alloc: Global, r: Expr, c: Expr, o: Expr) -> Result<AluLift, AllocError>
+fn with_flags<const BITS: u32>(
+    alloc: Global,
+    r: Expr,
+    c: Expr,
+    o: Expr,
+) -> Result<AluLift, AllocError>
     requires { IsSize BITS }
     ensures { IfOk result (λ l. l ≡ six_words BITS r c o) }
 {

@@ -6,5 +6,5 @@
 mod alu;
 mod condition;
 
-pub use alu::{lift_alu, AluLift};
+pub use alu::{AluLift, lift_alu};
 pub use condition::lift_cond;
