@@ -2,3 +2,5 @@ pub mod Run
 pub mod World
 pub mod Rule
 pub mod Counts
+pub mod Env
+pub mod Checked
