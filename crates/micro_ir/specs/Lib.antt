@@ -4,3 +4,4 @@ pub mod Rule
 pub mod Counts
 pub mod Env
 pub mod Checked
+pub mod Laws

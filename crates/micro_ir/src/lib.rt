@@ -6,6 +6,7 @@
 mod check;
 mod env;
 mod flow;
+mod laws;
 
 pub use c_syntax::{
     CBin as Bin, CCmp as Cmp, CCond as Cond, CExpr as Expr, CFn1 as Fn1, CFn2 as Fn2, CFn3 as Fn3,
@@ -13,3 +14,4 @@ pub use c_syntax::{
 pub use check::BadBlock;
 pub use env::{Env, eval};
 pub use flow::{Block, Case, End, Flow, Stmt};
+pub use laws::{blocks_move, more_blocks_continue, only_add_calls, worlds_stay};
