@@ -1,5 +1,5 @@
 -- Statements, blocks and runs only add calls.
-use Rattle.std.proofs.Common.{◌≡◌, ℕ, zero, suc, Bool, true, false, nat_eq, if◌then◌else◌, List, [], ◌∷◌, Option, Some, None}
+use Rattle.std.proofs.Common.{ℕ, zero, suc, Bool, true, false, nat_eq, if◌then◌else◌, List, [], ◌∷◌, Option, Some, None}
 use Rattle.dream_words.specs.declared.outcome.Call.{Call}
 use Rattle.dream_words.specs.declared.outcome.Outcome.{Outcome}
 use Rattle.run_parts.specs.Parts.{Ends, Over}

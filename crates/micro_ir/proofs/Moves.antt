@@ -1,14 +1,13 @@
 -- A block whose nodes are named anew does the same, and leads to the new nodes.
 use Rattle.std.proofs.Common.{◌≡◌, ℕ, Bool, true, false, nat_eq, if◌then◌else◌, List, [], ◌∷◌, Option, Some, None, map, refl, ap, ◌∙◌}
-use Rattle.run_parts.specs.Steps.{Next, Halt, Jam, To, End, Nowhere, arrive}
+use Rattle.run_parts.specs.Steps.{Next, Halt, Jam, To, arrive}
 use Rattle.run_parts.specs.World.{World}
 use Rattle.run_parts.specs.Effects.{Doing}
 use Rattle.c_syntax.specs.Run.{word_in, holds, does_ext}
 use Rattle.micro_ir.specs.declared.flow.Case.{Case}
 use Rattle.micro_ir.specs.declared.flow.End.{End as BlockEnd}
 use Rattle.micro_ir.specs.declared.flow.End.TheVariants as end
-use Rattle.micro_ir.specs.declared.flow.Block.{Block}
-use Rattle.micro_ir.specs.Run.{Arrive, stmts_do, branch, first_case, by_value, left_by, end_leads, block_leads}
+use Rattle.micro_ir.specs.Run.{Arrive, stmts_do, branch, first_case, by_value, left_by, end_leads}
 use Rattle.micro_ir.specs.Laws.{moved_case, moved_end, relocate, BlocksMove}
 
 branch_moved : (f : ℕ → ℕ) (o : Option Bool) (a b : ℕ) (w : World) → branch o (f a) (f b) w ≡ relocate f (branch o a b w)

@@ -1,11 +1,10 @@
 -- The nodes that flows name, and which flows are checked.
-use Rattle.std.proofs.Common.{rules, ◌≡◌, ℕ, zero, suc, ◌+◌, ◌<◌, ◌≤◌, ◌∙◌, sym, ap, refl, arith, Bool, true, false, cond, not, ◌||◌, List, [], ◌∷◌, Option, Some, None, map, length, get_or, ltb, nat_le}
+use Rattle.std.proofs.Common.{rules, ◌≡◌, ℕ, zero, suc, ◌+◌, ◌≤◌, ◌∙◌, sym, ap, refl, arith, Bool, true, false, cond, not, ◌||◌, List, [], ◌∷◌, Option, Some, None, map, length, get_or, ltb, nat_le}
 use Rattle.std.specs.Prelude.{slice_get, position, Contains}
 use Rattle.std.specs.List.{list_any, position_or_len}
-use Rattle.std.proofs.lemmas.Bool.{false≢true, leb-false, lt-leb, ltb-true, ltb-false}
+use Rattle.std.proofs.lemmas.Bool.{false≢true, leb-false, lt-leb, ltb-false}
 use Rattle.std.proofs.lemmas.List.Elements.{Contains-get_or}
 use Rattle.std.proofs.lemmas.List.Folds.{list_any_at, list_any_none}
-use Rattle.std.proofs.lemmas.Option.{slice_get-get_or}
 use Rattle.micro_ir.specs.declared.flow.Case.{Case}
 use Rattle.micro_ir.specs.declared.flow.Block.{Block}
 use Rattle.micro_ir.specs.declared.flow.Flow.{Flow}
@@ -63,6 +62,7 @@ none_bad f e = at (nat_le (length f.blocks) f.entry) refl e
   where
     first : ℕ → Bool → Option ℕ
     first n b = cond b (Some n) None
+
     at : (b : Bool) → nat_le (length f.blocks) f.entry ≡ b → cond b (Some 0) (position (λ b. names_outside (length f.blocks) b.end) f.blocks) ≡ None → IsChecked f
     at true t e = absurd (let z : ⊥ = cc in z)
     at false t e = record {

@@ -1,5 +1,5 @@
 -- The value of a Word is a word, where names have words and its numbers are words.
-use Rattle.std.proofs.Common.{◌≡◌, ℕ, ℤ, zero, suc, ◌+◌, ◌-◌, ◌*◌, ◌/◌, ◌%◌, ◌^◌, ◌<◌, ◌≤◌, min, Bool, true, false, cond, not, nat_eq, nat_lt, nat_le, ◌||◌, ◌&&◌, Option, Some, None, refl, sym, ap, ◌∙◌, subst, arith, rules, lit<}
+use Rattle.std.proofs.Common.{◌≡◌, ℕ, ℤ, zero, suc, ◌+◌, ◌-◌, ◌*◌, ◌/◌, ◌%◌, ◌^◌, ◌<◌, ◌≤◌, min, Bool, true, false, cond, not, nat_eq, nat_lt, nat_le, ◌||◌, ◌&&◌, Option, Some, None, refl, sym, subst, arith, rules, lit<}
 use Rattle.std.specs.Prelude.{IsTrue, bit_and, int_lt, int_div, int_rem, is_none}
 use Rattle.std.proofs.lemmas.Nat.{and_le_l, or_lt, xor_lt, mod_below}
 use Rattle.std.proofs.lemmas.Bool.{ltb-true, leb-false}
@@ -129,10 +129,10 @@ fn3_small Divuq x y z =
 fn3_small Divur x y z =
     remainder_small (nat_eq (low_part 32 z) 0 || nat_le (2 ^ 32) (wide_number 32 x y / low_part 32 z)) (wide_number 32 x y / low_part 32 z) (wide_number 32 x y % low_part 32 z)
     (λ e.
-        let some : 0 < low_part 32 z = some_of (low_part 32 z) (left_false (nat_eq (low_part 32 z) 0) (nat_le (2 ^ 32) (wide_number 32 x y / low_part 32 z)) e) in
-        let less : wide_number 32 x y % low_part 32 z < low_part 32 z = mod_below (wide_number 32 x y) (low_part 32 z) some in
-        let small : low_part 32 z < 2 ^ 32 = mod_below z (2 ^ 32) (lit< tt) in
-        omega (arith, less, small))
+    let some : 0 < low_part 32 z = some_of (low_part 32 z) (left_false (nat_eq (low_part 32 z) 0) (nat_le (2 ^ 32) (wide_number 32 x y / low_part 32 z)) e) in
+    let less : wide_number 32 x y % low_part 32 z < low_part 32 z = mod_below (wide_number 32 x y) (low_part 32 z) some in
+    let small : low_part 32 z < 2 ^ 32 = mod_below z (2 ^ 32) (lit< tt) in
+    omega (arith, less, small))
 fn3_small Divsbad x y z = bit_small (is_none (signed_quotient_of 32 x y z))
 fn3_small Divsq x y z =
     let n = signed_part (32 + 32) (wide_number 32 x y) in

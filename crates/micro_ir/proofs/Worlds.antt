@@ -1,5 +1,5 @@
 -- From a world a flow leads to worlds.
-use Rattle.std.proofs.Common.{◌≡◌, ℕ, zero, suc, ◌^◌, ◌<◌, ◌≤◌, Bool, true, false, cond, nat_eq, nat_lt, ◌&&◌, List, [], ◌∷◌, Option, Some, None, refl, sym, ap, ◌∙◌, subst, arith, rules, lit<}
+use Rattle.std.proofs.Common.{◌≡◌, ℕ, zero, suc, ◌^◌, ◌<◌, ◌≤◌, Bool, true, false, cond, nat_eq, nat_lt, ◌&&◌, List, [], ◌∷◌, Option, Some, None, arith, rules, lit<}
 use Rattle.std.specs.Prelude.{IsTrue, slice_get}
 use Rattle.dream_words.specs.declared.machine.Name.{Name}
 use Rattle.dream_words.specs.declared.machine.Name.TheVariants as n
@@ -18,7 +18,7 @@ use Rattle.dream_words.specs.Registers.{reg_of, flag_of, word_of_bit}
 use Rattle.dream_words.proofs.Memories.{AreBytes-store, load-lt}
 use Rattle.run_parts.specs.Steps.{Next, Halt, Jam, To, End, Nowhere, having, then_do, arrive}
 use Rattle.run_parts.specs.World.{World, Names, with_name, answered, start_names, start_world}
-use Rattle.run_parts.specs.Effects.{Doing, set_word, setting, loading, storing, answered_by, calling, trapping}
+use Rattle.run_parts.specs.Effects.{Doing, set_word, answered_by, calling}
 use Rattle.c_syntax.specs.declared.syntax.CExpr.{CExpr}
 use Rattle.c_syntax.specs.Run.{word_in, holds, does_ext}
 use Rattle.micro_ir.specs.declared.flow.Case.{Case}
@@ -28,7 +28,7 @@ use Rattle.micro_ir.specs.declared.flow.End.{End as BlockEnd}
 use Rattle.micro_ir.specs.declared.flow.End.TheVariants as end
 use Rattle.micro_ir.specs.declared.flow.Block.{Block}
 use Rattle.micro_ir.specs.World.{IsWorld}
-use Rattle.micro_ir.specs.Rule.{is_flow_target, has_flow_names, is_flow_word, is_flow_stmt, are_flow_stmts, is_flow_end, is_flow_block, are_flow_blocks}
+use Rattle.micro_ir.specs.Rule.{is_flow_target, is_flow_word, is_flow_stmt, are_flow_stmts, is_flow_end, is_flow_block, are_flow_blocks}
 use Rattle.micro_ir.specs.Run.{Arrive, stmt_does, stmts_do, branch, first_case, by_value, left_by, end_leads, block_leads, enter, onward, walk}
 use Rattle.micro_ir.specs.Laws.{IsWordOrStuck, DidStays, ArriveStays, WorldsStay}
 use Rattle.micro_ir.proofs.Values.{both_true, value_small}

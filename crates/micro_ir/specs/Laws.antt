@@ -1,5 +1,5 @@
 -- What a reader expects of flows.
-use Rattle.std.specs.Prelude.{◌≡◌, ℕ, ◌+◌, ◌^◌, ◌<◌, List, [], ◌∷◌, Option, Some, None, map, IsTrue}
+use Rattle.std.specs.Prelude.{◌≡◌, ℕ, ◌+◌, ◌^◌, ◌<◌, List, Option, Some, None, map, IsTrue}
 use Rattle.dream_words.specs.declared.outcome.Start.{Start}
 use Rattle.dream_words.specs.declared.outcome.Answer.{Answer}
 use Rattle.dream_words.specs.declared.outcome.Call.{Call}

@@ -26,7 +26,9 @@ impl Flow {
     {
         match self.bad_block() {
             None => Ok(()),
-            Some(n) => Err(BadBlock { node: NodeId(n as u32) }),
+            Some(n) => Err(BadBlock {
+                node: NodeId(n as u32),
+            }),
         }
     }
 
@@ -39,7 +41,10 @@ impl Flow {
         if is_past(self.entry, count) {
             return Some(0);
         }
-        self.blocks.as_slice().iter().position(|b| b.end.names_outside(count))
+        self.blocks
+            .as_slice()
+            .iter()
+            .position(|b| b.end.names_outside(count))
     }
 }
 
