@@ -5,6 +5,7 @@ ghost use Rattle.dream_words.specs.declared.machine.Name.{Name};
 ghost use Rattle.run_parts.specs.World.{with_name};
 ghost use Rattle.c_run.specs.Env.{flag_word, with_flag, with_local, names_of};
 
+use c_value::Words;
 use dream_words::{Name, Regs};
 use sqlite_items::Items;
 use std::alloc::AllocError;
@@ -82,11 +83,10 @@ fn set_local(words: &mut Items<u32>, n: u32, x: u32) -> Result<(), AllocError>
     Ok(())
 }
 
-impl Env {
-    /// The word of a name.
-    pub(crate) fn get(&self, n: Name) -> u32
-        ensures { result ≡ names_of self.now n }
-    {
+impl Words for Env {
+    ghost words = { names_of };
+
+    fn word(&self, n: Name) -> u32 {
         match n {
             Name::Reg(n) => self.regs.get(n),
             Name::Flag(n) => self.flags.get(n),
@@ -97,7 +97,9 @@ impl Env {
             Name::S(n) => local(&self.selectors, n),
         }
     }
+}
 
+impl Env {
     /// Sets a name. Where memory is refused, every name keeps its word.
     pub(crate) fn set(&mut self, n: Name, x: u32) -> Result<(), AllocError>
         ensures ok { IfOk result (λ _.

@@ -8,6 +8,5 @@ mod run;
 mod state;
 #[cfg(test)]
 mod tests;
-mod value;
 
 pub use run::run_c;

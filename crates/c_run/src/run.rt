@@ -9,8 +9,8 @@ ghost use Rattle.c_run.specs.State.{Does, DoesOr, test_of, loop_of};
 
 use crate::env::Env;
 use crate::state::{End, Flow, State};
-use crate::value::{truth, value};
 use c_syntax::{CArm, CCond, CFun, CGroup, CStmt};
+use c_value::{truth, value};
 use dream_words::{Answer, Outcome, Start};
 use std::alloc::{AllocError, Global};
 

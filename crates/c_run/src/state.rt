@@ -10,8 +10,8 @@ ghost use Rattle.c_syntax.specs.Run.{does_set, does_load, does_store, does_ext, 
 ghost use Rattle.c_run.specs.State.{flag_words, world_of, leads, DoesSimply};
 
 use crate::env::{Env, FlagWords};
-use crate::value::value;
 use c_syntax::CExpr;
+use c_value::value;
 use dream_words::{Answer, Bit, Call, Flags, Memory, Name, Outcome, Start, Width};
 use sqlite_items::Items;
 use std::alloc::{AllocError, Global};

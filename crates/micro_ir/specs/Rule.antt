@@ -1,9 +1,9 @@
 -- The rule of flows: which names, numbers and depths they have. Every flow that is given keeps it.
-use Rattle.std.specs.Prelude.{ℕ, ◌^◌, Bool, true, false, not, ◌&&◌, nat_lt, nat_le, List, [], ◌∷◌, IsTrue}
+use Rattle.std.specs.Prelude.{ℕ, ◌^◌, ◌<◌, ◌++◌, length, Bool, true, false, not, ◌&&◌, nat_lt, nat_le, List, [], ◌∷◌, IsTrue}
 use Rattle.dream_words.specs.declared.machine.Name.{Name}
 use Rattle.dream_words.specs.declared.machine.Name.TheVariants as name
 use Rattle.c_syntax.specs.declared.syntax.CExpr.{CExpr, CExpr-F, fold-CExpr}
-use Rattle.c_syntax.specs.declared.syntax.CCond.{CCond, CCond-F, fold-CCond}
+use Rattle.c_syntax.specs.declared.syntax.CCond.{CCond, fold-CCond}
 use Rattle.c_syntax.specs.Depth.{word_depth, cond_depth}
 use Rattle.c_syntax.specs.Formed.{is_word, is_base, cond_names}
 use Rattle.micro_ir.specs.declared.flow.Case.{Case}
@@ -13,6 +13,7 @@ use Rattle.micro_ir.specs.declared.flow.End.{End as BlockEnd}
 use Rattle.micro_ir.specs.declared.flow.End.TheVariants as end
 use Rattle.micro_ir.specs.declared.flow.Block.{Block}
 use Rattle.micro_ir.specs.declared.flow.Flow.{Flow}
+use Rattle.micro_ir.specs.Checked.{nodes_of, IsChecked}
 
 -- A name that a flow may have: a register, a flag or a base that exists, or a local for words below 2^31.
 abbrev pub is_flow_name : Name → Bool
@@ -85,3 +86,16 @@ are_flow_blocks (b ∷ bs) = is_flow_block b && are_flow_blocks bs
 -- a flow keeps the rule
 abbrev pub KeepsRule : Flow → Type 0
 KeepsRule f = IsTrue (are_flow_blocks f.blocks)
+
+-- the nodes that blocks name, in reading order
+abbrev pub nodes_in : List Block → List ℕ
+nodes_in [] = []
+nodes_in (b ∷ bs) = nodes_of b.end ++ nodes_in bs
+
+-- A flow that may be given: each node that it names is one of its blocks, it keeps the rule, and it has and names fewer
+-- than 2^30 blocks.
+pub record IsGiven (f : Flow) : Type 0 where
+  pub checked : IsChecked f
+  pub rule : KeepsRule f
+  pub few_blocks : length f.blocks < 2 ^ 30
+  pub few_nodes : length (nodes_in f.blocks) < 2 ^ 30
