@@ -1,4 +1,0 @@
-pub mod Stands
-pub mod Lifted
-pub mod Parts
-pub mod Shown
