@@ -1,5 +1,5 @@
 -- The text of a function, piece by piece, and what a page shows after it.
-use Rattle.std.proofs.Common.{◌≡◌, ℕ, suc, ◌+◌, ◌-◌, ◌^◌, ◌<◌, ◌≤◌, min, List, [], ◌∷◌, ◌++◌, length, take, map, Option, Some, refl, ap, sym, ◌∙◌, arith}
+use Rattle.std.proofs.Common.{◌≡◌, ℕ, suc, ◌+◌, ◌-◌, ◌^◌, ◌<◌, min, List, [], ◌∷◌, ◌++◌, length, map, Some, refl, ap, sym, ◌∙◌, arith}
 use Rattle.std.specs.Prelude.{codes}
 use Rattle.std.proofs.lemmas.List.{take_all}
 use Rattle.dream_words.specs.declared.machine.Name.{Name}
@@ -9,7 +9,7 @@ use Rattle.c_syntax.specs.declared.syntax.CFun.{CFun}
 use Rattle.c_syntax.specs.Spelling.{decimal, name_text, function_text}
 use Rattle.c_syntax.specs.Text.{Text, line, all, stmt_text, stmts_text, decls_text, canonical_text}
 use Rattle.c_print.specs.Page.{Shown, puts, keeping_page, counting_page}
-use Rattle.c_print.proofs.Shows.{then, keeps, puts-counting, puts-keeping}
+use Rattle.c_print.proofs.Shows.{then, puts-counting, puts-keeping}
 
 -- one declaration more
 pub decl_more : (kind : ℕ → Name) (letter : Text) (n : ℕ) (p s t u q : Shown) → name_text (kind n) ≡ letter ++ decimal n

@@ -1,5 +1,5 @@
 -- What a page shows after texts.
-use Rattle.std.proofs.Common.{◌≡◌, ℕ, ◌+◌, ◌-◌, ◌^◌, zero, suc, ◌<◌, ◌≤◌, min, Bool, true, false, cond, List, [], ◌∷◌, ◌++◌, length, take, Option, Some, None, refl, ap, sym, ◌∙◌, arith, length-append, append_assoc, append-nil}
+use Rattle.std.proofs.Common.{◌≡◌, ℕ, ◌+◌, ◌-◌, ◌^◌, zero, suc, ◌<◌, ◌≤◌, min, cond, List, [], ◌∷◌, ◌++◌, length, take, Some, None, refl, ap, sym, ◌∙◌, arith, length-append, append_assoc, append-nil}
 use borrow.Author.Tests.{lt-ltb, le-ltb}
 use Rattle.c_print.specs.Page.{Shown, with_byte, kept_with, puts}
 
@@ -23,22 +23,26 @@ puts-counting c r (b ∷ x) h =
     puts-counting (min (c + 1) (2 ^ 64 - 1)) r x (omega arith)
     ∙ ap (λ n. record { count = n; room = r; kept = None }) (omega arith)
 
--- a page that keeps bytes: it is full, or has room for one more
+-- a page that keeps these bytes
+abbrev pub keeps : ℕ → ℕ → List ℕ → Shown
+keeps c r k = record { count = c; room = r; kept = Some k }
+
+-- its bytes with one more, where it is full and where it has room
 full_keeps : (r b : ℕ) (k : List ℕ) → r ≡ length k + 0 → kept_with r b k ≡ k
 full_keeps r b k e = ap (λ t. cond t (k ++ b ∷ []) k) (le-ltb (length k) r (omega (arith, e)))
 
 room_keeps : (r b m : ℕ) (k : List ℕ) → r ≡ length k + suc m → kept_with r b k ≡ k ++ b ∷ []
 room_keeps r b m k e = ap (λ t. cond t (k ++ b ∷ []) k) (lt-ltb (length k) r (omega (arith, e)))
 
-abbrev pub keeps : ℕ → ℕ → List ℕ → Shown
-keeps c r k = record { count = c; room = r; kept = Some k }
-
+-- counts of one byte and of the rest
 count_more : (c n : ℕ) → min (min (c + 1) (2 ^ 64 - 1) + n) (2 ^ 64 - 1) ≡ min (c + suc n) (2 ^ 64 - 1)
 count_more c n = omega arith
 
+-- the room that is left after one byte
 one_more : (r m b : ℕ) (k : List ℕ) → r ≡ length k + suc m → r ≡ length (k ++ b ∷ []) + m
 one_more r m b k e = omega (arith, e, length-append k (b ∷ []))
 
+-- a page that keeps bytes and has room for m more
 pub puts-keeping : (c r m : ℕ) (k x : List ℕ) → c < 2 ^ 64 → r ≡ length k + m → puts (keeps c r k) x ≡ keeps (min (c + length x) (2 ^ 64 - 1)) r (k ++ take m x)
 unfolding with_byte
 puts-keeping c r zero k [] h e = ap (λ n. keeps n r k) (omega arith) ∙ ap (λ t. keeps (min (c + 0) (2 ^ 64 - 1)) r t) (sym (append-nil k))
@@ -53,7 +57,7 @@ puts-keeping c r (suc m) k (b ∷ x) h e =
     ∙ ap (λ n. keeps n r ((k ++ b ∷ []) ++ take m x)) (count_more c (length x))
     ∙ ap (λ t. keeps (min (c + suc (length x)) (2 ^ 64 - 1)) r t) (append_assoc k (b ∷ []) (take m x))
 
--- a page after a text, by its parts
+-- a page after a text, by its parts: one that keeps bytes, and one that only counts
 pub put_kept : (c n r : ℕ) (k l x : List ℕ) (s : Shown) → c < 2 ^ 64 → length k ≤ r → n ≡ min (c + length x) (2 ^ 64 - 1) → l ≡ k ++ take (r - length k) x → keeps c r k ≡ s
     → keeps n r l ≡ puts s x
 put_kept c n r k l x s h w e f g =

@@ -1,5 +1,5 @@
 -- The texts of statements, arms and groups at a level, by their forms.
-use Rattle.std.proofs.Common.{◌≡◌, ℕ, List, ◌++◌, map, Option, Some, None, refl, ap, sym, ◌∙◌}
+use Rattle.std.proofs.Common.{◌≡◌, ℕ, List, ◌++◌, map, Some, None, ap, sym, ◌∙◌}
 use Rattle.std.specs.Prelude.{codes}
 use Rattle.dream_words.specs.declared.machine.Name.{Name}
 use Rattle.dream_words.specs.declared.machine.Width.{Width}
@@ -10,7 +10,7 @@ use Rattle.c_syntax.specs.declared.syntax.CStmt.TheVariants as stmt
 use Rattle.c_syntax.specs.declared.syntax.CArm.{CArm, out-CArm, fold_out-CArm}
 use Rattle.c_syntax.specs.declared.syntax.CGroup.{CGroup, out-CGroup, fold_out-CGroup}
 use Rattle.c_syntax.specs.Spelling.{name_text, num_text, ld_text, st_text}
-use Rattle.c_syntax.specs.Text.{Lines, word_text, cond_text, stmt_at, arm_at, group_at, stmt_text, arm_text, group_text, line, indent, all, arms_text, body_text, cases_text}
+use Rattle.c_syntax.specs.Text.{Lines, word_text, cond_text, stmt_at, arm_at, group_at, stmt_text, arm_text, group_text, line, all, arms_text, body_text, cases_text}
 use Rattle.c_syntax.proofs.Layers.{stmt_text_layer}
 
 pub stmt_set : (n : Name) (e : CExpr) (l : ℕ) → stmt_text (Set n e) l ≡ line l (name_text n ++ codes " = " ++ word_text e ++ codes ";")

@@ -1,7 +1,6 @@
 -- The texts of Words and Conds, by their forms.
-use Rattle.std.proofs.Common.{◌≡◌, ℕ, ◌++◌, refl, ap, sym, ◌∙◌}
+use Rattle.std.proofs.Common.{◌≡◌, ◌++◌, ap, sym, ◌∙◌}
 use Rattle.std.specs.Prelude.{codes}
-use Rattle.dream_words.specs.declared.machine.Name.{Name}
 use Rattle.c_syntax.specs.declared.syntax.CBin.{CBin}
 use Rattle.c_syntax.specs.declared.syntax.CCmp.{CCmp}
 use Rattle.c_syntax.specs.declared.syntax.CFn1.{CFn1}

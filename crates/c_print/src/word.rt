@@ -95,14 +95,14 @@ pub(crate) fn put_cond(c: &CCond, page: &mut Page)
         CCond::And(c, d) => {
             page.put(b"(");
             put_cond(c.get(), page);
-            page.put(b" && ");
+            put_sign(b"&&", page);
             put_cond(d.get(), page);
             page.put(b")");
         }
         CCond::Or(c, d) => {
             page.put(b"(");
             put_cond(c.get(), page);
-            page.put(b" || ");
+            put_sign(b"||", page);
             put_cond(d.get(), page);
             page.put(b")");
         }

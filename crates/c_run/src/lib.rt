@@ -3,7 +3,10 @@
 //! Promises: the outcome that the function means, or that memory was refused.
 #![tactic(auto)]
 
+mod callees;
 mod env;
+#[cfg(test)]
+mod form_tests;
 mod run;
 mod state;
 #[cfg(test)]

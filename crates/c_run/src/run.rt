@@ -4,9 +4,11 @@ ghost use Rattle.std.specs.Prelude.{◌≡◌, ◌≤◌, IfOk, map, option_copi
 ghost use Rattle.run_parts.specs.Parts.{has, first_arm, group_of};
 ghost use Rattle.run_parts.specs.World.{World};
 ghost use Rattle.c_run.specs.Env.{names_of};
-ghost use Rattle.c_syntax.specs.Run.{run, run_arm, run_group, run_all, c_run};
-ghost use Rattle.c_run.specs.State.{Does, DoesOr, test_of, loop_of};
+ghost use Rattle.c_syntax.specs.Run.{c_run};
+ghost use Rattle.c_run.specs.RunBy.{run_by, run_arm_by, run_group_by, run_all_by, loop_by};
+ghost use Rattle.c_run.specs.State.{Does, DoesOr, test_of};
 
+use crate::callees::{Answered, Callees, ext};
 use crate::env::Env;
 use crate::state::{End, Flow, State};
 use c_syntax::{CArm, CCond, CFun, CGroup, CStmt};
@@ -27,48 +29,49 @@ pub fn run_c(
 {
     let mut state = State::new(alloc, start)?;
     let mut left = turns;
-    let flow = sequence(f.body.as_slice(), answers, &mut left, &mut state)?;
+    let callees = Answered { answers };
+    let flow = sequence(f.body.as_slice(), &callees, &mut left, &mut state)?;
     Ok(state.outcome(flow))
 }
 
 /// One statement.
 #[cycle(run)]
-fn statement(
+fn statement<H: Callees>(
     s: &CStmt,
-    answers: &[Answer],
+    callees: &H,
     turns: &mut u64,
     state: &mut State,
 ) -> Result<Flow, AllocError>
     ensures value { IfOk result (λ flow.
-        Does (run s.now) answers.now turns.old state.old flow turns.new state.new) }
+        Does (run_by (H.does callees.now) s.now) (H.left callees.now) turns.old state.old flow turns.new state.new) }
     ensures spends { turns.new ≤ turns.old }
 {
     match s {
         CStmt::Set(n, a) => state.set(*n, a),
         CStmt::Load(n, width, a) => state.load(*n, *width, a),
         CStmt::Store(width, a, b) => state.store(*width, a, b),
-        CStmt::Ext(a) => state.ext(answers, a),
+        CStmt::Ext(a) => ext(a, callees, turns, state),
         CStmt::Trap(vector, a) => Ok(state.trap(*vector, a)),
-        CStmt::If(arms, last) => match choose(arms.as_slice(), answers, turns, state)? {
+        CStmt::If(arms, last) => match choose(arms.as_slice(), callees, turns, state)? {
             Some(flow) => Ok(flow),
             None => match last {
                 None => Ok(Flow::Next),
-                Some(body) => sequence(body.as_slice(), answers, turns, state),
+                Some(body) => sequence(body.as_slice(), callees, turns, state),
             },
         },
         CStmt::Switch(a, groups, last) => match value(a, &state.env) {
             None => Ok(Flow::Ends(End::Stuck)),
-            Some(x) => match select(groups.as_slice(), x, answers, turns, state)? {
+            Some(x) => match select(groups.as_slice(), x, callees, turns, state)? {
                 Some(flow) => Ok(flow.caught()),
                 None => {
-                    let flow = sequence(last.as_slice(), answers, turns, state)?;
+                    let flow = sequence(last.as_slice(), callees, turns, state)?;
                     Ok(flow.caught())
                 }
             },
         },
-        CStmt::Loop(body) => repeat(body.as_slice(), None, None, answers, turns, state),
-        CStmt::While(t, body) => repeat(body.as_slice(), Some(t), None, answers, turns, state),
-        CStmt::DoWhile(body, t) => repeat(body.as_slice(), None, Some(t), answers, turns, state),
+        CStmt::Loop(body) => repeat(body.as_slice(), None, None, callees, turns, state),
+        CStmt::While(t, body) => repeat(body.as_slice(), Some(t), None, callees, turns, state),
+        CStmt::DoWhile(body, t) => repeat(body.as_slice(), None, Some(t), callees, turns, state),
         CStmt::Break => Ok(Flow::Left),
         CStmt::Return => Ok(Flow::Ends(End::Returned)),
     }
@@ -76,18 +79,18 @@ fn statement(
 
 /// Statements one after another.
 #[cycle(run)]
-fn sequence(
+fn sequence<H: Callees>(
     body: &[CStmt],
-    answers: &[Answer],
+    callees: &H,
     turns: &mut u64,
     state: &mut State,
 ) -> Result<Flow, AllocError>
     ensures value { IfOk result (λ flow.
-        Does (run_all body.now) answers.now turns.old state.old flow turns.new state.new) }
+        Does (run_all_by (H.does callees.now) body.now) (H.left callees.now) turns.old state.old flow turns.new state.new) }
     ensures spends { turns.new ≤ turns.old }
 {
     for s in body {
-        match statement(s, answers, turns, state)? {
+        match statement(s, callees, turns, state)? {
             Flow::Next => {}
             flow => return Ok(flow),
         }
@@ -97,21 +100,21 @@ fn sequence(
 
 /// The first arm whose test holds. None where there is none.
 #[cycle(run)]
-fn choose(
+fn choose<H: Callees>(
     arms: &[CArm],
-    answers: &[Answer],
+    callees: &H,
     turns: &mut u64,
     state: &mut State,
 ) -> Result<Option<Flow>, AllocError>
     ensures value { IfOk result (λ o.
-        DoesOr (first_arm (map run_arm arms.now))
-        answers.now turns.old state.old o turns.new state.new) }
+        DoesOr (first_arm (map (run_arm_by (H.does callees.now)) arms.now))
+        (H.left callees.now) turns.old state.old o turns.new state.new) }
     ensures spends { turns.new ≤ turns.old }
 {
     for arm in arms {
         match truth(&arm.test, &state.env) {
             None => return Ok(Some(Flow::Ends(End::Stuck))),
-            Some(true) => return Ok(Some(sequence(arm.body.as_slice(), answers, turns, state)?)),
+            Some(true) => return Ok(Some(sequence(arm.body.as_slice(), callees, turns, state)?)),
             Some(false) => {}
         }
     }
@@ -120,21 +123,21 @@ fn choose(
 
 /// The group that has the value. None where there is none.
 #[cycle(run)]
-fn select(
+fn select<H: Callees>(
     groups: &[CGroup],
     x: u32,
-    answers: &[Answer],
+    callees: &H,
     turns: &mut u64,
     state: &mut State,
 ) -> Result<Option<Flow>, AllocError>
     ensures value { IfOk result (λ o.
-        DoesOr (λ last. group_of (map run_group groups.now) last x)
-        answers.now turns.old state.old o turns.new state.new) }
+        DoesOr (λ last. group_of (map (run_group_by (H.does callees.now)) groups.now) last x)
+        (H.left callees.now) turns.old state.old o turns.new state.new) }
     ensures spends { turns.new ≤ turns.old }
 {
     for group in groups {
         if has(group.values.as_slice(), x) {
-            return Ok(Some(sequence(group.body.as_slice(), answers, turns, state)?));
+            return Ok(Some(sequence(group.body.as_slice(), callees, turns, state)?));
         }
     }
     Ok(None)
@@ -142,17 +145,17 @@ fn select(
 
 /// A loop with a test before its body and a test after it. One that is absent holds.
 #[cycle(run)]
-fn repeat(
+fn repeat<H: Callees>(
     body: &[CStmt],
     enter: Option<&CCond>,
     again: Option<&CCond>,
-    answers: &[Answer],
+    callees: &H,
     turns: &mut u64,
     state: &mut State,
 ) -> Result<Flow, AllocError>
     ensures value { IfOk result (λ flow.
-        Does (loop_of (option_copied enter.entry) body.now (option_copied again.entry))
-        answers.now turns.old state.old flow turns.new state.new) }
+        Does (loop_by (H.does callees.now) (option_copied enter.entry) body.now (option_copied again.entry))
+        (H.left callees.now) turns.old state.old flow turns.new state.new) }
     ensures spends { turns.new ≤ turns.old }
 {
     loop {
@@ -165,7 +168,7 @@ fn repeat(
             return Ok(Flow::Ends(End::Going));
         }
         *turns -= 1;
-        match sequence(body, answers, turns, state)? {
+        match sequence(body, callees, turns, state)? {
             Flow::Next => {}
             Flow::Left => return Ok(Flow::Next),
             flow => return Ok(flow),

@@ -1,13 +1,12 @@
 //! The state of a run, and what each simple statement does to it.
 
-ghost use Rattle.std.specs.Prelude.{◌≡◌, ℕ, IfOk, List};
-ghost use Rattle.dream_words.specs.declared.outcome.Answer.{Answer};
+ghost use Rattle.std.specs.Prelude.{◌≡◌, ℕ, IfOk, []};
 ghost use Rattle.dream_words.specs.Registers.{word_of_bit};
 ghost use Rattle.run_parts.specs.Parts.{on, caught};
 ghost use Rattle.run_parts.specs.World.{World, start_world, outcome_of};
 ghost use Rattle.run_parts.specs.Effects.{set_word, calling};
-ghost use Rattle.c_syntax.specs.Run.{does_set, does_load, does_store, does_ext, does_trap};
-ghost use Rattle.c_run.specs.State.{flag_words, world_of, leads, DoesSimply};
+ghost use Rattle.c_syntax.specs.Run.{does_set, does_load, does_store, does_trap};
+ghost use Rattle.c_run.specs.State.{Left, after_calls, flag_words, world_of, leads, DoesSimply};
 
 use crate::env::{Env, FlagWords};
 use c_syntax::CExpr;
@@ -85,7 +84,7 @@ impl State {
     /// Where a run begins.
     pub(crate) fn new(alloc: Global, start: &Start) -> Result<State, AllocError>
         ensures { IfOk result (λ s.
-            (answers : List Answer) → world_of answers s ≡ start_world start.now answers) }
+            (left : Left) → world_of left s ≡ start_world start.now (left [])) }
     {
         let mem = start.mem.copy()?;
         Ok(State {
@@ -106,8 +105,8 @@ impl State {
     /// A name is set to a word.
     fn assign(&mut self, n: Name, x: u32) -> Result<(), AllocError>
         ensures { IfOk result (λ _.
-            (answers : List Answer) → world_of answers self.new
-            ≡ set_word n x (world_of answers self.old)) }
+            (left : Left) → world_of left self.new
+            ≡ set_word n x (world_of left self.old)) }
     {
         self.env.set(n, x)
     }
@@ -115,7 +114,7 @@ impl State {
     /// `n = a;`
     pub(crate) fn set(&mut self, n: Name, a: &CExpr) -> Result<Flow, AllocError>
         ensures { IfOk result (λ flow.
-            (answers : List Answer) → DoesSimply (does_set n a.now) answers self.old flow self.new) }
+            (left : Left) → DoesSimply (does_set n a.now) left self.old flow self.new) }
     {
         let Some(x) = value(a, &self.env) else {
             return Ok(Flow::Ends(End::Stuck));
@@ -127,7 +126,7 @@ impl State {
     /// `n = ld4(a);`
     pub(crate) fn load(&mut self, n: Name, width: Width, a: &CExpr) -> Result<Flow, AllocError>
         ensures { IfOk result (λ flow.
-            (answers : List Answer) → DoesSimply (does_load n width a.now) answers self.old flow self.new) }
+            (left : Left) → DoesSimply (does_load n width a.now) left self.old flow self.new) }
     {
         let Some(at) = value(a, &self.env) else {
             return Ok(Flow::Ends(End::Stuck));
@@ -140,7 +139,7 @@ impl State {
     /// `st4(a, b);`
     pub(crate) fn store(&mut self, width: Width, a: &CExpr, b: &CExpr) -> Result<Flow, AllocError>
         ensures { IfOk result (λ flow.
-            (answers : List Answer) → DoesSimply (does_store width a.now b.now) answers self.old flow self.new) }
+            (left : Left) → DoesSimply (does_store width a.now b.now) left self.old flow self.new) }
     {
         let Some(at) = value(a, &self.env) else {
             return Ok(Flow::Ends(End::Stuck));
@@ -152,22 +151,10 @@ impl State {
         Ok(Flow::Next)
     }
 
-    /// `ext(a);`
-    pub(crate) fn ext(&mut self, answers: &[Answer], a: &CExpr) -> Result<Flow, AllocError>
-        ensures { IfOk result (λ flow.
-            DoesSimply (does_ext a.now) answers.now self.old flow self.new) }
-    {
-        let Some(target) = value(a, &self.env) else {
-            return Ok(Flow::Ends(End::Stuck));
-        };
-        let flow = self.call(answers, target)?;
-        Ok(flow)
-    }
-
     /// A call is recorded, and its answer taken where there is one.
-    fn call(&mut self, answers: &[Answer], target: u32) -> Result<Flow, AllocError>
+    pub(crate) fn call(&mut self, answers: &[Answer], target: u32) -> Result<Flow, AllocError>
         ensures { IfOk result (λ flow.
-            DoesSimply (calling target) answers.now self.old flow self.new) }
+            DoesSimply (calling target) (after_calls answers.now) self.old flow self.new) }
     {
         let k = self.calls.len();
         let regs = self.env.regs;
@@ -186,7 +173,7 @@ impl State {
 
     /// `trap(v, a);`
     pub(crate) fn trap(&self, vector: u32, a: &CExpr) -> Flow
-        ensures { (answers : List Answer) → DoesSimply (does_trap vector a.now) answers self.now result self.now }
+        ensures { (left : Left) → DoesSimply (does_trap vector a.now) left self.now result self.now }
     {
         match value(a, &self.env) {
             None => Flow::Ends(End::Stuck),
@@ -197,7 +184,7 @@ impl State {
 
     /// The outcome of a run that led there.
     pub(crate) fn outcome(self, flow: Flow) -> Outcome
-        ensures { (m : ℕ) (answers : List Answer) → result ≡ outcome_of (leads flow m (world_of answers self)) }
+        ensures { (m : ℕ) (left : Left) → result ≡ outcome_of (leads flow m (world_of left self)) }
     {
         let State { env, mem, calls } = self;
         match flow {

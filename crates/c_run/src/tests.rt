@@ -9,7 +9,7 @@ use std::test::Fail;
 
 const ESP: u32 = 0xbfff_0000;
 
-fn start(alloc: Global) -> Result<Start, AllocError> {
+pub(crate) fn start(alloc: Global) -> Result<Start, AllocError> {
     let mut mem = Memory::new(alloc);
     mem.store(ESP + 4, Width::W, 3)?;
     Ok(Start {
@@ -44,11 +44,11 @@ fn flags() -> Flags {
     }
 }
 
-fn reg(n: u8) -> CExpr {
+pub(crate) fn reg(n: u8) -> CExpr {
     CExpr::Name(Name::Reg(n))
 }
 
-fn bin(alloc: Global, op: CBin, a: CExpr, b: CExpr) -> Result<CExpr, AllocError> {
+pub(crate) fn bin(alloc: Global, op: CBin, a: CExpr, b: CExpr) -> Result<CExpr, AllocError> {
     Ok(CExpr::Bin(op, Boxed::new(alloc, a)?, Boxed::new(alloc, b)?))
 }
 
@@ -63,7 +63,7 @@ fn function(body: Vec<CStmt>) -> CFun {
 }
 
 /// The kind of an outcome; its register eax, its vector or the target of its last call; its calls.
-fn told(o: &Outcome) -> (&'static str, u32, usize) {
+pub(crate) fn told(o: &Outcome) -> (&'static str, u32, usize) {
     match o {
         Outcome::Returned { regs, calls, .. } => ("returned", regs.eax, calls.len()),
         Outcome::Faulted { vector, calls, .. } => ("faulted", *vector, calls.len()),
@@ -101,7 +101,7 @@ fn rounds(alloc: Global) -> Result<CStmt, AllocError> {
     Ok(CStmt::DoWhile(Items::from_vec(body), again))
 }
 
-fn change(alloc: Global, n: u8, op: CBin, by: CExpr) -> Result<CStmt, AllocError> {
+pub(crate) fn change(alloc: Global, n: u8, op: CBin, by: CExpr) -> Result<CStmt, AllocError> {
     let changed = bin(alloc, op, reg(n), by)?;
     Ok(CStmt::Set(Name::Reg(n), changed))
 }

@@ -4,3 +4,4 @@ pub mod More
 pub mod Moves
 pub mod Values
 pub mod Worlds
+pub mod FlowNames

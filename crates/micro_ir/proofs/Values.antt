@@ -178,7 +178,7 @@ both_true true b h = (refl, h)
 both_true false b h = absurd (let z : ⊥ = cc in z)
 
 -- the names of a Word are those of its layer
-names_layer : (y : CExpr-F CCond CExpr) → has_flow_names (roll-CExpr y) ≡ word_names (e.map-CExpr CCond CExpr Bool Bool cond_has_flow_names has_flow_names y)
+pub names_layer : (y : CExpr-F CCond CExpr) → has_flow_names (roll-CExpr y) ≡ word_names (e.map-CExpr CCond CExpr Bool Bool cond_has_flow_names has_flow_names y)
 names_layer y = e.fold-roll-CExpr Bool Bool cond_names word_names y
 
 -- names have words

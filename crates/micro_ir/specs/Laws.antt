@@ -1,5 +1,6 @@
 -- What a reader expects of flows.
 use Rattle.std.specs.Prelude.{◌≡◌, ℕ, ◌+◌, ◌^◌, ◌<◌, List, Option, Some, None, map, IsTrue}
+use Rattle.dream_words.specs.declared.machine.Name.{Name}
 use Rattle.dream_words.specs.declared.outcome.Start.{Start}
 use Rattle.dream_words.specs.declared.outcome.Answer.{Answer}
 use Rattle.dream_words.specs.declared.outcome.Call.{Call}
@@ -7,9 +8,11 @@ use Rattle.dream_words.specs.declared.outcome.Outcome.{Outcome}
 use Rattle.dream_words.specs.Ranges.{AreWords, AreBytes, AreAnswers}
 use Rattle.run_parts.specs.Laws.{Begins, OutcomeShows, DidShows}
 use Rattle.run_parts.specs.Steps.{Next, Halt, Jam, To, End, Nowhere}
-use Rattle.run_parts.specs.World.{World, start_world}
+use Rattle.run_parts.specs.World.{World, Names, start_world}
 use Rattle.run_parts.specs.Effects.{Doing}
 use Rattle.c_syntax.specs.declared.syntax.CExpr.{CExpr}
+use Rattle.c_syntax.specs.declared.syntax.CCond.{CCond}
+use Rattle.c_syntax.specs.Value.{word_of, truth_of}
 use Rattle.c_syntax.specs.RunLaws.{Continues}
 use Rattle.c_syntax.specs.Run.{word_in}
 use Rattle.micro_ir.specs.declared.flow.Case.{Case}
@@ -19,7 +22,7 @@ use Rattle.micro_ir.specs.declared.flow.End.TheVariants as end
 use Rattle.micro_ir.specs.declared.flow.Block.{Block}
 use Rattle.micro_ir.specs.declared.flow.Flow.{Flow}
 use Rattle.micro_ir.specs.Run.{Arrive, stmt_does, block_leads, onward, walk, flow_run}
-use Rattle.micro_ir.specs.Rule.{is_flow_word, is_flow_stmt, is_flow_block, are_flow_blocks}
+use Rattle.micro_ir.specs.Rule.{is_flow_name, has_flow_names, cond_has_flow_names, is_flow_word, is_flow_stmt, is_flow_block, are_flow_blocks}
 use Rattle.micro_ir.specs.World.{IsWorld}
 
 -- ---- calls are only added
@@ -71,6 +74,17 @@ relocate f Nowhere = Nowhere
 -- A block with the same statements and with the nodes of its end named anew does the same, and leads to the new nodes.
 abbrev pub BlocksMove : Type 0
 BlocksMove = (f : ℕ → ℕ) (a b : Block) (w : World) → b.stmts ≡ a.stmts → b.end ≡ moved_end f a.end → block_leads b w ≡ relocate f (block_leads a w)
+
+-- ---- names
+
+-- the names that a flow may have stand for the same words
+abbrev pub SameFlowNames : Names → Names → Type 0
+SameFlowNames v u = (n : Name) → IsTrue (is_flow_name n) → v n ≡ u n
+
+-- The names that a flow may have decide the value of each of its Words, and the truth of each of its Conds.
+pub record FlowNamesDecide : Type 0 where
+  pub same_value : (e : CExpr) (v u : Names) → IsTrue (has_flow_names e) → SameFlowNames v u → word_of e v ≡ word_of e u
+  pub same_truth : (t : CCond) (v u : Names) → IsTrue (cond_has_flow_names t) → SameFlowNames v u → truth_of t v ≡ truth_of t u
 
 -- ---- worlds
 

@@ -1,6 +1,6 @@
 //! What holds of the definitions alone, each law the contract of a function without code.
 
-ghost use Rattle.micro_ir.specs.Laws.{BlocksMove, MoreBlocksContinue, OnlyAddCalls, WorldsStay};
+ghost use Rattle.micro_ir.specs.Laws.{BlocksMove, FlowNamesDecide, MoreBlocksContinue, OnlyAddCalls, WorldsStay};
 
 /// Statements, blocks and runs only add calls.
 pub fn only_add_calls()
@@ -15,6 +15,11 @@ pub fn more_blocks_continue()
 /// A block whose nodes are named anew does the same, and leads to the new nodes.
 pub fn blocks_move()
     ensures { BlocksMove }
+{}
+
+/// The names that a flow may have decide the values of its Words and the truth of its Conds.
+pub fn flow_names_decide()
+    ensures { FlowNamesDecide }
 {}
 
 /// From a world a flow leads to worlds, and its Words have words as values.

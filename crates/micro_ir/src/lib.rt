@@ -16,4 +16,4 @@ pub use c_syntax::{
 pub use check::BadBlock;
 pub use env::{Env, eval};
 pub use flow::{Block, Case, End, Flow, Stmt};
-pub use laws::{blocks_move, more_blocks_continue, only_add_calls, worlds_stay};
+pub use laws::{blocks_move, flow_names_decide, more_blocks_continue, only_add_calls, worlds_stay};

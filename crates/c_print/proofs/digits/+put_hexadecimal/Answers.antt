@@ -1,4 +1,4 @@
-use Rattle.std.proofs.Common.{◌≡◌, false, ◌/◌, ◌%◌, ◌∷◌, [], ap, sym, ◌∙◌, arith}
+use Rattle.std.proofs.Common.{false, ◌/◌, ◌%◌, ◌∷◌, [], ap, sym, ◌∙◌, arith}
 use Rattle.std.specs.Fmt.{digit_glyph, digits}
 use Rattle.std.proofs.lemmas.Fmt.{hex_one_digit}
 use Rattle.c_print.specs.Page.{puts}

@@ -1,4 +1,4 @@
-use Rattle.c_print.proofs.Loops.{cases_more, cases_put}
+use Rattle.c_print.proofs.Loops.{cases_more}
 use Rattle.c_print.proofs.stmt.put_cases.Goals as goal
 
 pub loop-v-preserved : goal.loop-v-preserved

@@ -6,7 +6,7 @@ use Rattle.c_run.specs.State.{world_of}
 use Rattle.c_run.proofs.state.State.load.Goals as goal
 
 pub returns : goal.returns
-returns c = λ answers m. let w = world_of answers c.args.self.now in
-    ap (λ v. Ends (Past v) m) ((c.in_ok-assign.ensures {u = tt}) answers)
+returns c = λ left m. let w = world_of left c.args.self.now in
+    ap (λ v. Ends (Past v) m) ((c.in_ok-assign.ensures {u = tt}) left)
     ∙ ap (λ x. Ends (Past (set_word c.args.n x w)) m) c.load-x.ensures
     ∙ sym (ap (λ o. done (having o (λ at. loading c.args.n c.args.width at w)) m) (sym c.value.ensures ∙ c.in-Some.is))

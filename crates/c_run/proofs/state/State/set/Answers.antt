@@ -6,6 +6,6 @@ use Rattle.c_run.specs.State.{world_of}
 use Rattle.c_run.proofs.state.State.set.Goals as goal
 
 pub returns : goal.returns
-returns c = λ answers m. let w = world_of answers c.args.self.now in
-    ap (λ v. Ends (Past v) m) ((c.in_ok-assign.ensures {u = tt}) answers)
+returns c = λ left m. let w = world_of left c.args.self.now in
+    ap (λ v. Ends (Past v) m) ((c.in_ok-assign.ensures {u = tt}) left)
     ∙ sym (ap (λ o. done (having o (λ x. setting c.args.n x w)) m) (sym c.value.ensures ∙ c.in-Some.is))

@@ -1,0 +1,4 @@
+pub mod Places
+pub mod Emitted
+pub mod Laws
+pub mod Gathered

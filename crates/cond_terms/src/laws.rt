@@ -1,0 +1,8 @@
+//! What holds of the definitions alone, each law the contract of a function without code.
+
+ghost use Rattle.cond_terms.specs.Laws.{TermsMeanSo};
+
+/// The truth and the number of literals of each kind of term.
+pub fn terms_mean_so()
+    ensures { TermsMeanSo }
+{}

@@ -1,0 +1,11 @@
+//! Terms: conditions over variables that stand for words, as they guard the parts of a tree.
+//! It is given nothing. It promises copies, whether two terms are the same, and how many literals a term has.
+#![tactic(auto)]
+
+mod laws;
+mod term;
+#[cfg(test)]
+mod tests;
+
+pub use laws::terms_mean_so;
+pub use term::{Lit, Term, copy, same_term, size};

@@ -1,0 +1,4 @@
+pub mod Induct
+pub mod Layers
+pub mod Runs
+mod Meaning

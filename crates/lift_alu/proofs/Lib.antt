@@ -1,0 +1,8 @@
+mod Sizes
+mod Numbers
+mod Signs
+mod Values
+mod Given
+pub mod Operations
+pub mod Truths
+pub mod Shapes

@@ -1,0 +1,9 @@
+pub mod Chains
+pub mod Values
+pub mod Writes
+pub mod Kept
+pub mod Sureness
+pub mod Steady
+pub mod Fit
+pub mod FitWrites
+pub mod FitShapes

@@ -1,0 +1,5 @@
+pub mod Stands
+pub mod Lifted
+pub mod Parts
+pub mod Shown
+pub mod Safe
