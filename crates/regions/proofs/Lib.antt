@@ -1,0 +1,2 @@
+mod Agreed
+pub mod Core

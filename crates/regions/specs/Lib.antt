@@ -1,0 +1,4 @@
+pub mod Follows
+pub mod Plain
+pub mod Straight
+pub mod Laws

@@ -1,0 +1,51 @@
+-- The tree of a flow that is one line of blocks.
+use Rattle.std.specs.Prelude.{ℕ, zero, suc, nat_eq, if◌then◌else◌, List, [], ◌∷◌, Option, Some, None, length, slice_get}
+use Rattle.micro_ir.specs.declared.flow.End.{End as BlockEnd}
+use Rattle.micro_ir.specs.declared.flow.End.TheVariants as end
+use Rattle.micro_ir.specs.declared.flow.Block.{Block}
+use Rattle.micro_ir.specs.declared.flow.Flow.{Flow}
+use Rattle.guarded.specs.declared.tree.Tree.{Tree, Tree-F, roll-Tree}
+use Rattle.regions.specs.Plain.{block_tree}
+
+-- Where a line goes on after a block: at another block, nowhere, since the run is over, or it splits.
+pub data Way : Type 0 where
+  On : ℕ → Way
+  Over : Way
+  Splits : Way
+
+-- A Branch between one and the same node goes on there.
+abbrev pub way_of : BlockEnd → Way
+way_of (end.Go a) = On a
+way_of (end.Branch t a b) = if nat_eq a b then On a else Splits
+way_of (end.Switch e cases) = Splits
+way_of end.Return = Over
+way_of (end.Leave e) = Over
+
+-- a tree, and then those of a line that there may be
+abbrev pub with_rest : Tree → Option (List Tree) → Option (List Tree)
+with_rest t None = None
+with_rest t (Some ts) = Some (t ∷ ts)
+
+-- a block, and then the line that goes on by its way
+abbrev pub on_way : Tree → Way → (ℕ → Option (List Tree)) → Option (List Tree)
+on_way t (On a) rest = with_rest t (rest a)
+on_way t Over rest = Some (t ∷ [])
+on_way t Splits rest = None
+
+abbrev pub from_block : Option Block → (ℕ → Option (List Tree)) → Option (List Tree)
+from_block None rest = None
+from_block (Some b) rest = on_way (block_tree b) (way_of b.end) rest
+
+-- The line of at most so many blocks, from the block of a number on. None where it splits or is longer.
+abbrev pub line : List Block → ℕ → ℕ → Option (List Tree)
+line blocks zero n = None
+line blocks (suc k) n = from_block (slice_get blocks n) (line blocks k)
+
+-- the trees of a line one after another
+abbrev pub in_line : Option (List Tree) → Option Tree
+in_line None = None
+in_line (Some ts) = Some (roll-Tree (Tree-F.Seq ts))
+
+-- A line of more blocks than the flow has comes to one of them twice, so it never ends.
+abbrev pub straight_tree : Flow → Option Tree
+straight_tree f = in_line (line f.blocks (length f.blocks) f.entry)

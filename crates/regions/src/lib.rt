@@ -1,0 +1,8 @@
+//! Trees of flows: structuring.
+//! Given is a flow that keeps the rule of flows.
+//! Promised is a well-formed tree that follows it.
+#![tactic(auto)]
+
+mod laws;
+
+pub use laws::following_agrees;
