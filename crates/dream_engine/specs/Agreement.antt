@@ -1,5 +1,5 @@
 -- The headline: when a function of C means what a range of machine code means.
-use Rattle.std.specs.Prelude.{◌≡◌, ℕ, List, Option}
+use Rattle.std.specs.Prelude.{◌≡◌, ◌⊎◌, ℕ, List, Option}
 use Rattle.elf_image.specs.declared.image.Segment.{Segment}
 use Rattle.elf_image.specs.declared.range.Range.{Range}
 use Rattle.dream_words.specs.declared.outcome.Start.{Start}
@@ -10,10 +10,14 @@ use Rattle.x86_inst.specs.declared.Inst.{Inst}
 use Rattle.machine.specs.Code.{Decodes}
 use Rattle.machine.specs.Run.{IsStart, machine_run}
 use Rattle.c_syntax.specs.declared.syntax.CFun.{CFun}
+use Rattle.c_syntax.specs.Formed.{IsWellFormed}
 use Rattle.c_syntax.specs.Run.{c_run}
 use Rattle.c_syntax.specs.Text.{canonical_text}
 use Rattle.c_syntax.specs.Stands.{StandsFor}
-use Rattle.dream_engine.specs.Place.{HasNoPlace}
+use Rattle.guarded.specs.Counts.{loops_in, tests_in, selectors_in}
+use Rattle.flow_graph.specs.Place.{HasNoPlace}
+use Rattle.dream_engine.specs.declared.form.Form.{Form}
+use Rattle.dream_engine.specs.declared.form.Form.TheVariants.{Structured, Plain}
 
 -- The function has the range's address, and from every start, with every list of answers, it agrees with the machine.
 pub record Agrees (m : List Segment) (r : Range) (f : CFun) : Type 0 where
@@ -21,10 +25,30 @@ pub record Agrees (m : List Segment) (r : Range) (f : CFun) : Type 0 where
   pub runs : (decoded : ℕ → Option (Inst × ℕ)) → Decodes m r decoded → (start : Start) → IsStart m start → (answers : List Answer) → AreAnswers answers
       → Agreeing (machine_run m r decoded start answers) (c_run f start answers)
 
--- The text is the canonical one of a function that agrees with the range, and it stands for that function.
-pub record IsDecompiled (m : List Segment) (r : Range) (text : List ℕ) : Type 0 where
-  pub function : CFun
+-- one loop, and one selector
+abbrev pub IsSelectorLoop : CFun → Type 0
+IsSelectorLoop f = (loops_in f ≡ 1) × (selectors_in f ≡ 1)
+
+-- no loop, no test and no selector
+abbrev pub IsStraightLine : CFun → Type 0
+IsStraightLine f = (loops_in f ≡ 0) × (tests_in f ≡ 0) × (selectors_in f ≡ 0)
+
+-- What a form is: the plain one is one loop with one selector. Of the structured one it is said only that it is this, or
+-- a straight line.
+abbrev pub HasForm : Form → CFun → Type 0
+HasForm Plain f = IsSelectorLoop f
+HasForm Structured f = IsStraightLine f ⊎ IsSelectorLoop f
+
+-- The function of a range: no place is named, it is well formed, it has its form, and it agrees with the range.
+pub record IsFunctionOf (form : Form) (m : List Segment) (r : Range) (f : CFun) : Type 0 where
   pub no_place : HasNoPlace m r
+  pub formed : IsWellFormed f
+  pub in_form : HasForm form f
+  pub agrees : Agrees m r f
+
+-- The text is the canonical one of a function of the range, and it stands for that function.
+pub record IsDecompiled (form : Form) (m : List Segment) (r : Range) (text : List ℕ) : Type 0 where
+  pub function : CFun
+  pub is_function : IsFunctionOf form m r function
   pub is_canonical : text ≡ canonical_text function
   pub stands : StandsFor text function
-  pub agrees : Agrees m r function

@@ -1,5 +1,2 @@
-pub mod Form
-pub mod Place
 pub mod Agreement
-pub mod Line
-pub mod Laws
+pub mod Tree

@@ -1,36 +1,55 @@
-//! From the code of a range to the text of its C.
+//! From a range to its function, and to the text of that.
 
 ghost use Rattle.std.specs.Prelude.{◌≡◌, IfOk, IfErr};
-ghost use Rattle.c_syntax.specs.Text.{canonical_text};
-ghost use Rattle.dream_engine.specs.Line.{function_of as function_is};
-ghost use Rattle.dream_engine.specs.Agreement.{IsDecompiled};
-ghost use Rattle.dream_engine.specs.Place.{HasNoText};
+ghost use Rattle.c_emit.specs.Laws.{IsTreeOf};
+ghost use Rattle.dream_engine.specs.Agreement.{IsDecompiled, IsFunctionOf};
+ghost use Rattle.dream_engine.specs.Tree.{IsTreeIn};
+ghost use Rattle.flow_graph.specs.Place.{HasNoText};
+ghost use Rattle.micro_ir.specs.Rule.{IsGiven};
 
-use crate::function::function_of;
-use crate::line::{Line, straight_line};
-use crate::place::FlowFault;
+use crate::form::Form;
+use c_emit::emit;
 use c_print::print;
-use c_syntax::canonical_stands;
+use c_syntax::{CFun, canonical_stands};
 use elf_image::{Image, Range};
+use flow_graph::{FlowFault, discover};
+use guarded::Tree;
+use micro_ir::Flow;
+use range_flow::flow_of;
+use regions::{plain, straight};
 use std::alloc::{AllocError, Global};
 
-// The text of a line's function.
-fn text_of(alloc: Global, entry: u32, line: &Line) -> Result<Vec<u8>, AllocError>
-    ensures { IfOk result (λ text. text.items ≡ canonical_text (function_is entry line.now)) }
+// The tree of a flow in a form.
+fn tree_of(alloc: Global, f: &Flow, form: Form) -> Result<Tree, AllocError>
+    requires given { IsGiven f.now }
+    ensures { IfOk result (IsTreeIn form f.now) }
 {
-    let f = function_of(alloc, entry, line)?;
-    print(alloc, &f)
+    match form {
+        Form::Plain => plain(alloc, f),
+        Form::Structured => match straight(alloc, f)? {
+            Some(t) => Ok(t),
+            None => plain(alloc, f),
+        },
+    }
 }
 
-/// The text of the function at a range of an image.
-pub fn decompile_one(alloc: Global, m: &Image, r: &Range) -> Result<Vec<u8>, FlowFault>
-    ensures ok { IfOk result (λ text. IsDecompiled m.now r.now text.items) }
+/// The function of a range of an image, in a form.
+pub fn decompile_fun(alloc: Global, m: &Image, r: &Range, form: Form) -> Result<CFun, FlowFault>
+    ensures ok { IfOk result (IsFunctionOf form m.now r.now) }
     ensures err { IfErr result (HasNoText m.now r.now) }
 {
-    let line = straight_line(alloc, m, r)?;
+    let found = discover(alloc, m, r)?;
+    let flow = flow_of(alloc, m, r, &found)?;
+    let tree = tree_of(alloc, &flow, form)?;
+    Ok(emit(alloc, &tree, r.entry)?)
+}
+
+/// The text of that function.
+pub fn decompile_one(alloc: Global, m: &Image, r: &Range, form: Form) -> Result<Vec<u8>, FlowFault>
+    ensures ok { IfOk result (λ text. IsDecompiled form m.now r.now text.items) }
+    ensures err { IfErr result (HasNoText m.now r.now) }
+{
+    let f = decompile_fun(alloc, m, r, form)?;
     canonical_stands();
-    match text_of(alloc, r.entry, &line) {
-        Ok(text) => Ok(text),
-        Err(_) => Err(FlowFault::Memory),
-    }
+    Ok(print(alloc, &f)?)
 }

@@ -5,7 +5,8 @@ use Rattle.std.specs.Io.KnownBytes.{Keeps, Appends}
 use Rattle.dream_outside.specs.Causes.{Store, Rose, IsUnheld}
 use Rattle.elf_image.specs.declared.image.Segment.{Segment}
 use Rattle.elf_image.specs.Image.{image_of}
-use Rattle.dream_engine.specs.Place.{NamedPlace}
+use Rattle.flow_graph.specs.Place.{NamedPlace}
+use Rattle.dream_engine.specs.declared.form.Form.{Form}
 use Rattle.dream_engine.specs.Agreement.{IsDecompiled}
 use Rattle.dream_top.specs.declared.status.Status.{Status}
 use Rattle.dream_top.specs.declared.status.Status.TheVariants.{Done, Usage, ReadFault, WriteFault, NoMemory, NotElf, NoFunction, Outside, FileTooLarge, NotProfile}
@@ -83,9 +84,9 @@ pub record Loads (i : Reading) (path : List ℕ) (P : List ℕ → Type 0) : Typ
 abbrev pub LoadsImage : Reading → List ℕ → (List Segment → Type 0) → Type 0
 LoadsImage i path P = (m : List Segment) × Loads i path (λ bytes. image_of bytes ≡ Ok m) × P m
 
--- the text is that of a function which means what the range of the file does
-abbrev pub Decompiles : Reading → Target → List ℕ → Type 0
-Decompiles i f text = LoadsImage i f.path (λ m. IsDecompiled m f.range text)
+-- the text is that of a function in the form, which means what the range of the file does
+abbrev pub Decompiles : Form → Reading → Target → List ℕ → Type 0
+Decompiles form i f text = LoadsImage i f.path (λ m. IsDecompiled form m f.range text)
 
 -- why a function is refused before anything is written
 abbrev pub Refuses : Status → Reading → Target → Type 0
@@ -104,10 +105,10 @@ Refuses (NotProfile at) i f = ⊥
 
 -- What a status says where a function is asked for. The output grows by the whole text at Done, by a front of it at
 -- WriteFault, and not at all otherwise.
-abbrev pub AnswersDecompile : Status → Reading → Writing → Target → Type 0
-AnswersDecompile Done i o f = (text : List ℕ) × Decompiles i f text × Appends o.taken o.taken_now text
-AnswersDecompile WriteFault i o f = (text : List ℕ) × Decompiles i f text × StopsIn o text
-AnswersDecompile s i o f = Refuses s i f × Keeps o.taken o.taken_now
+abbrev pub AnswersDecompile : Form → Status → Reading → Writing → Target → Type 0
+AnswersDecompile form Done i o f = (text : List ℕ) × Decompiles form i f text × Appends o.taken o.taken_now text
+AnswersDecompile form WriteFault i o f = (text : List ℕ) × Decompiles form i f text × StopsIn o text
+AnswersDecompile form s i o f = Refuses s i f × Keeps o.taken o.taken_now
 
 -- What a status says of a text that is known before: the output grows by the whole of it at Done and by a front of it at
 -- WriteFault. No other status comes.
@@ -125,5 +126,5 @@ pub record AnswersPrelude (s : Status) (i : Reading) (o : Writing) : Type 0 wher
 -- What a status says. Words that are no command are answered by Usage, and no others are.
 abbrev pub Answers : Status → Reading → Writing → Option Command → Type 0
 Answers s i o None = (s ≡ Usage) × Keeps o.taken o.taken_now
-Answers s i o (Some (Decompile f)) = AnswersDecompile s i o f
+Answers s i o (Some (Decompile form f)) = AnswersDecompile form s i o f
 Answers s i o (Some Prelude) = AnswersPrelude s i o

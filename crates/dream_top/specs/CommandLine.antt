@@ -1,10 +1,12 @@
 -- Which lists of words are which command. The words are those after the program's name.
 use Rattle.std.specs.Prelude.{ℕ, ◌+◌, ◌-◌, ◌*◌, ◌&&◌, ◌==◌, nat_le, nat_eq, Bool, false, List, [], ◌∷◌, length, drop, Option, Some, None, if◌then◌else◌, codes}
 use Rattle.std.specs.List.{starts_with, before_first, after_first}
-use Rattle.std.specs.Option.{option_and_then, option_map}
+use Rattle.std.specs.Option.{option_and_then}
 use Rattle.std.specs.Str.{bytes_eq}
 use Rattle.elf_image.specs.declared.range.Range.{Range}
 use Rattle.elf_image.specs.Range.{range}
+use Rattle.dream_engine.specs.declared.form.Form.{Form}
+use Rattle.dream_engine.specs.declared.form.Form.TheVariants.{Structured, Plain}
 use Rattle.dream_top.specs.declared.words.Command as words
 use Rattle.dream_top.specs.declared.words.Command.TheVariants as variant
 
@@ -46,15 +48,19 @@ pub record Target : Type 0 where
 abbrev pub target : List ℕ → Range → Target
 target path range = record { path = path; range = range }
 
--- what the words ask for: the C of a function, or the header that each text includes
+-- what the words ask for: the C of a function in a form, or the header that each text includes
 pub data Command : Type 0 where
-  Decompile : Target → Command
+  Decompile : Form → Target → Command
   Prelude : Command
 
 -- what the program's command asks for
 abbrev pub asked_by : words.Command → Command
-asked_by (variant.Decompile f) = Decompile (target f.path.now f.range)
+asked_by (variant.Decompile form f) = Decompile form (target f.path.now f.range)
 asked_by variant.Prelude = Prelude
+
+-- `decompile` asks for the structured form, and `plain` for the plain one.
+abbrev pub form_named : List ℕ → Option Form
+form_named name = if bytes_eq name (codes "decompile") then Some Structured else (if bytes_eq name (codes "plain") then Some Plain else None)
 
 -- PATH is not empty, and FUNC is an address form.
 abbrev pub function_at : List ℕ → Option Range → Option Target
@@ -62,16 +68,22 @@ function_at [] func = None
 function_at (b ∷ bs) None = None
 function_at (b ∷ bs) (Some r) = Some (target (b ∷ bs) r)
 
--- `decompile PATH FUNC`
-abbrev pub target_of : List (List ℕ) → Option Target
-target_of (name ∷ path ∷ func ∷ []) = if bytes_eq name (codes "decompile") then function_at path (address_form func) else None
-target_of _ = None
+-- a form and a function, where there are both
+abbrev pub asks : Option Form → Option Target → Option Command
+asks None f = None
+asks (Some form) None = None
+asks (Some form) (Some f) = Some (Decompile form f)
+
+-- `decompile PATH FUNC` and `plain PATH FUNC`
+abbrev pub function_asked : List (List ℕ) → Option Command
+function_asked (name ∷ path ∷ func ∷ []) = asks (form_named name) (function_at path (address_form func))
+function_asked _ = None
 
 -- `prelude`
 abbrev pub is_prelude : List (List ℕ) → Bool
 is_prelude (name ∷ []) = bytes_eq name (codes "prelude")
 is_prelude _ = false
 
--- Either of these; every other list of words is no command.
+-- One of these; every other list of words is no command.
 abbrev pub command_of : List (List ℕ) → Option Command
-command_of words = if is_prelude words then Some Prelude else option_map Decompile (target_of words)
+command_of words = if is_prelude words then Some Prelude else function_asked words

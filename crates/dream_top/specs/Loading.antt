@@ -8,8 +8,8 @@ use Rattle.dream_top.specs.declared.status.Status.{Status}
 use Rattle.dream_top.specs.declared.status.Status.TheVariants.{ReadFault, FileTooLarge, NoMemory, NotElf, Outside}
 use Rattle.elf_image.specs.declared.image.ImageFault.{ImageFault}
 use Rattle.elf_image.specs.declared.image.ImageFault.TheVariants as image
-use Rattle.dream_engine.specs.declared.place.FlowFault.{FlowFault}
-use Rattle.dream_engine.specs.declared.place.FlowFault.TheVariants as flow
+use Rattle.flow_graph.specs.declared.place.FlowFault.{FlowFault}
+use Rattle.flow_graph.specs.declared.place.FlowFault.TheVariants as flow
 use Rattle.dream_top.specs.Answers.{limit, Reading, IsReadFault, IsTooLarge}
 
 -- one turn of reading: some bytes more, or the end

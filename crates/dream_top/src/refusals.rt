@@ -5,7 +5,7 @@ ghost use Rattle.dream_top.specs.Loading.{load_status, image_status, flow_status
 
 use crate::load::LoadFault;
 use crate::status::Status;
-use dream_engine::FlowFault;
+use flow_graph::FlowFault;
 use elf_image::ImageFault;
 
 impl From<LoadFault> for Status {

@@ -3,7 +3,7 @@
 ghost use Rattle.std.specs.Prelude.{◌≡◌};
 ghost use Rattle.dream_top.specs.Statuses.{code_of};
 
-use dream_engine::Place;
+use flow_graph::Place;
 use elf_image::ElfFault;
 
 /// How the program ends.

@@ -3,7 +3,7 @@
 ghost use Rattle.std.specs.Prelude.{None};
 
 use crate::{Status, dream};
-use dream_engine::{Cause, Place};
+use flow_graph::{Cause, Place};
 use dream_outside::{Failed, Files, MemFile, MemFiles, MemSink};
 use elf_image::ElfFault;
 use std::alloc::Global;
@@ -93,13 +93,20 @@ fn answers_with_ample_memory(rt: HostRuntime) -> Result<(), Fail> {
 #[test]
 fn prints_straight_lines(rt: HostRuntime) -> Result<(), Fail> {
     let alloc = rt.alloc();
-    let cases: [(&[u8], u32, &str, &str); 3] = [
-        // A move and a sum of registers.
+    let cases: [(&[u8], u32, &str, &str); 4] = [
+        // A move of registers.
         (
-            &[0x89, 0xc8, 0x01, 0xd0, 0xc3],
+            &[0x89, 0xc8, 0xc3],
+            0x0804_8000,
+            "0x08048100+3",
+            "#include \"dream386.h\"\n\nvoid f_08048100(void)\n{\n  eax = ecx;\n  esp = (esp + 0x4u);\n  return;\n}\n",
+        ),
+        // A jump out of the range.
+        (
+            &[0xe9, 0xfb, 0x0e, 0, 0],
             0x0804_8000,
             "0x08048100+5",
-            "#include \"dream386.h\"\n\nvoid f_08048100(void)\n{\n  eax = ecx;\n  eax = (eax + edx);\n  esp = (esp + 0x4u);\n  return;\n}\n",
+            "#include \"dream386.h\"\n\nvoid f_08048100(void)\n{\n  ext(0x8049000u);\n  return;\n}\n",
         ),
         // Code that leaves the range.
         (
@@ -125,10 +132,46 @@ fn prints_straight_lines(rt: HostRuntime) -> Result<(), Fail> {
     Ok(())
 }
 
+// How often a word stands in a text.
+fn count(text: &[u8], word: &str) -> Result<usize, Fail> {
+    Ok(std::str::from_utf8(text)?.matches(word).count())
+}
+
+// Functions by their code: how many loops and switches their texts have, structured and plain.
+#[test]
+fn decompiles_in_two_forms(rt: HostRuntime) -> Result<(), Fail> {
+    let alloc = rt.alloc();
+    let cases: [(&[u8], &str, usize); 8] = [
+        // Straight lines: sums of registers, a call to the entry, a jump through a bare address, a return past a pushed word.
+        (&[0x89, 0xc8, 0x01, 0xd0, 0xc3], "0x08048100+5", 0),
+        (&[0xe8, 0xfb, 0xff, 0xff, 0xff, 0xc3], "0x08048100+6", 0),
+        (&[0xff, 0x25, 0x0c, 0xa0, 0x04, 0x08], "0x08048100+6", 0),
+        (&[0x50, 0xc3], "0x08048100+2", 0),
+        // A loop of additions, an empty loop, a branch, and a repeated string instruction.
+        (&[0x31, 0xc0, 0x8b, 0x4c, 0x24, 0x04, 0x01, 0xc8, 0x49, 0x75, 0xfb, 0xc3], "0x08048100+c", 1),
+        (&[0xeb, 0xfe], "0x08048100+2", 1),
+        (&[0x8b, 0x44, 0x24, 0x04, 0x85, 0xc0, 0x79, 0x02, 0xf7, 0xd8, 0xc3], "0x08048100+b", 1),
+        (&[0xf3, 0xab, 0xc3], "0x08048100+3", 1),
+    ];
+    for (code, func, loops) in cases {
+        let ran = decompile(alloc, elf(alloc, code)?, func)?;
+        assert!(rt; ran.status == Status::Done, "{func}");
+        assert_eq!(rt; count(ran.out.bytes(), "while (1)")?, loops, "{func}");
+        assert_eq!(rt; count(ran.out.bytes(), "switch (s0)")?, loops, "{func}");
+        assert_eq!(rt; ran.notes.bytes().len(), 0, "{func}");
+        let mut files = files(alloc, elf(alloc, code)?, Vec::new(alloc))?;
+        let ran = call(alloc, &mut files, &["plain", "a", func], sink(alloc)?)?;
+        assert!(rt; ran.status == Status::Done, "{func}");
+        assert_eq!(rt; count(ran.out.bytes(), "while (1)")?, 1, "{func}");
+        assert_eq!(rt; count(ran.out.bytes(), "switch (s0)")?, 1, "{func}");
+    }
+    Ok(())
+}
+
 #[test]
 fn names_the_place_outside(rt: HostRuntime) -> Result<(), Fail> {
     let alloc = rt.alloc();
-    let cases: [(&[u8], &str, u32, Cause, &str); 6] = [
+    let cases: [(&[u8], &str, u32, Cause, &str); 9] = [
         (
             &MOVE,
             "0x08048100+0",
@@ -149,6 +192,27 @@ fn names_the_place_outside(rt: HostRuntime) -> Result<(), Fail> {
             0x0804_8100,
             Cause::Straddle,
             "dream: outside the profile: Straddle at 0x08048100\n",
+        ),
+        (
+            &[0x90, 0xd9, 0xe8, 0xc3],
+            "0x08048100+4",
+            0x0804_8101,
+            Cause::Instruction,
+            "dream: outside the profile: Instruction at 0x08048101\n",
+        ),
+        (
+            &[0xff, 0xe0],
+            "0x08048100+2",
+            0x0804_8100,
+            Cause::IndirectJump,
+            "dream: outside the profile: IndirectJump at 0x08048100\n",
+        ),
+        (
+            &[0xe8, 0, 0, 0, 0, 0x58, 0xc3],
+            "0x08048100+7",
+            0x0804_8100,
+            Cause::CallInside,
+            "dream: outside the profile: CallInside at 0x08048100\n",
         ),
         (
             &MOVE,
@@ -214,7 +278,7 @@ fn tells_how_words_are_used(rt: HostRuntime) -> Result<(), Fail> {
         &["decompile", "a", "0x008048100+6"],
         &["decompile", "a", "0x0804810g+6"],
         &["decompile", "a", "0x08048100+6", ""],
-        &["plain", "a", "0x08048100+6"],
+        &["plain", "a", "main"],
         &["drill", "0"],
         &["prelude", "x"],
     ];

@@ -12,19 +12,20 @@ use crate::notes::tell;
 use crate::status::Status;
 use crate::words::{Command, Target, command_in};
 use crate::writing::put_all;
-use dream_engine::decompile_one;
+use dream_engine::{Form, decompile_one};
 use dream_outside::{Files, Sink};
 use elf_image::{Image, Range};
 use std::alloc::Global;
 
-// The text of the function at a range of the file at a path.
+// The text of the function at a range of the file at a path, in a form.
 fn decompile<F: Files>(
     alloc: Global,
     files: &mut F,
+    form: Form,
     path: &str,
     range: Range,
 ) -> Result<Vec<u8>, Status>
-    ensures ok { IfOk result (λ text. Decompiles
+    ensures ok { IfOk result (λ text. Decompiles form
         (reading_of (F.held files.old) (F.faults files.old) (F.faults files.new) (F.got files.old) (F.got files.new))
         (target path.now range) text.items) }
     ensures err { IfErr result (λ s. Refuses s
@@ -33,23 +34,24 @@ fn decompile<F: Files>(
 {
     let bytes = load(alloc, files, path)?;
     let image = Image::read(alloc, &bytes)?;
-    Ok(decompile_one(alloc, &image, &range)?)
+    Ok(decompile_one(alloc, &image, &range, form)?)
 }
 
-// Writes the text of the function at a range of the file at a path.
+// Writes that text.
 fn write_function<F: Files, K: Sink>(
     alloc: Global,
     files: &mut F,
+    form: Form,
     path: &str,
     range: Range,
     out: &mut K,
 ) -> Status
-    ensures { AnswersDecompile result
+    ensures { AnswersDecompile form result
         (reading_of (F.held files.old) (F.faults files.old) (F.faults files.new) (F.got files.old) (F.got files.new))
         (writing_of (K.taken out.old) (K.taken out.new) (K.faults out.old) (K.faults out.new))
         (target path.now range) }
 {
-    match decompile(alloc, files, path, range) {
+    match decompile(alloc, files, form, path, range) {
         Err(status) => status,
         Ok(text) => match put_all(out, &text) {
             Ok(()) => Status::Done,
@@ -79,8 +81,8 @@ fn work<F: Files, K: Sink>(alloc: Global, words: &[String], files: &mut F, out: 
 {
     match command_in(words) {
         None => Status::Usage,
-        Some(Command::Decompile(Target { path, range })) => {
-            write_function(alloc, files, path, range, out)
+        Some(Command::Decompile(form, Target { path, range })) => {
+            write_function(alloc, files, form, path, range, out)
         }
         Some(Command::Prelude) => write_header(out),
     }

@@ -1,8 +1,9 @@
 //! The words of the command line.
 
 ghost use Rattle.std.specs.Prelude.{◌≡◌, ◌<◌, ℕ, map, string_bytes, IfSome, MatchOption};
-ghost use Rattle.dream_top.specs.CommandLine.{hex_digit as hex_digit_of, hex_number as hex_number_of, sum_form as sum_form_of, address_form as address_form_of, target_of, target as target_is, is_prelude as asks_for_header, command_of, asked_by};
+ghost use Rattle.dream_top.specs.CommandLine.{hex_digit as hex_digit_of, hex_number as hex_number_of, sum_form as sum_form_of, address_form as address_form_of, form_named as form_named_of, function_at as function_at_of, function_asked as function_asked_of, target as target_is, is_prelude as asks_for_header, command_of, asked_by};
 
+use dream_engine::Form;
 use elf_image::Range;
 
 /// A function: the range of the file at a path.
@@ -15,8 +16,8 @@ pub struct Target<'a> {
 /// What the words ask for.
 #[derive(Clone, Copy)]
 pub enum Command<'a> {
-    /// The C of a function.
-    Decompile(Target<'a>),
+    /// The C of a function, in a form.
+    Decompile(Form, Target<'a>),
     /// The header that each text includes.
     Prelude,
 }
@@ -63,15 +64,40 @@ fn address_form(func: &str) -> Option<Range>
     sum_form(func.strip_prefix("0x")?)
 }
 
+// The form that a command's name asks for.
+fn form_named(name: &str) -> Option<Form>
+    ensures { result ≡ form_named_of name.now }
+{
+    if name == "decompile" {
+        Some(Form::Structured)
+    } else if name == "plain" {
+        Some(Form::Plain)
+    } else {
+        None
+    }
+}
+
+// The function of a PATH and a FUNC.
+fn function_at<'a>(path: &'a str, func: &str) -> Option<Target<'a>>
+    ensures { MatchOption result (function_at_of path.now (address_form_of func.now) ≡ None) (λ t. function_at_of path.now (address_form_of func.now) ≡ Some (target_is t.path.now t.range)) }
+{
+    if path.is_empty() {
+        return None;
+    }
+    let range = address_form(func)?;
+    Some(Target { path, range })
+}
+
 // The function that the words ask for, if they do.
-fn target_in(words: &[String]) -> Option<Target<'_>>
-    ensures { MatchOption result (target_of (map string_bytes words.now) ≡ None) (λ t. target_of (map string_bytes words.now) ≡ Some (target_is t.path.now t.range)) }
+fn function_asked(words: &[String]) -> Option<Command<'_>>
+    ensures { MatchOption result (function_asked_of (map string_bytes words.now) ≡ None) (λ c. function_asked_of (map string_bytes words.now) ≡ Some (asked_by c)) }
 {
     match words {
-        [name, path, func] if name.as_str() == "decompile" && !path.is_empty() => Some(Target {
-            path: path.as_str(),
-            range: address_form(func.as_str())?,
-        }),
+        [name, path, func] => {
+            let form = form_named(name.as_str())?;
+            let target = function_at(path.as_str(), func.as_str())?;
+            Some(Command::Decompile(form, target))
+        }
         _ => None,
     }
 }
@@ -93,6 +119,6 @@ pub fn command_in(words: &[String]) -> Option<Command<'_>>
     if is_prelude(words) {
         Some(Command::Prelude)
     } else {
-        Some(Command::Decompile(target_in(words)?))
+        function_asked(words)
     }
 }
