@@ -6,6 +6,8 @@
 mod laws;
 mod place;
 mod range_code;
+mod sites;
+mod walk;
 
 pub use laws::one_place;
 pub use place::{Cause, FlowFault, Place};

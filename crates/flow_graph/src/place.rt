@@ -2,6 +2,9 @@
 
 ghost use Rattle.std.specs.Prelude.{◌≡◌};
 ghost use Rattle.flow_graph.specs.Place.{cause_number};
+ghost use Rattle.flow_graph.specs.declared.place.FlowFault.TheVariants.{Memory};
+
+use std::alloc::AllocError;
 
 /// Why a function is outside the profile.
 #[derive(Clone, Copy, Debug, PartialEq, Eq)]
@@ -53,4 +56,12 @@ pub enum FlowFault {
     Outside(Place),
     /// Memory was refused.
     Memory,
+}
+
+impl From<AllocError> for FlowFault {
+    ghost from_gives = { λ _ fault. fault ≡ Memory };
+
+    fn from(_error: AllocError) -> FlowFault {
+        FlowFault::Memory
+    }
 }
