@@ -1,9 +1,10 @@
-//! The place where a function is outside the profile.
+//! What is found of a function, or the place where it is outside the profile.
 
 ghost use Rattle.std.specs.Prelude.{◌≡◌};
 ghost use Rattle.flow_graph.specs.Place.{cause_number};
 ghost use Rattle.flow_graph.specs.declared.place.FlowFault.TheVariants.{Memory};
 
+use graph_order::Graph;
 use std::alloc::AllocError;
 
 /// Why a function is outside the profile.
@@ -47,6 +48,14 @@ impl Cause {
 pub struct Place {
     pub at: u32,
     pub cause: Cause,
+}
+
+/// What of a range is reached: the addresses in the order of discovery, and the graph of what follows what, whose node
+/// k is the k-th of them.
+#[derive(Drop)]
+pub struct Found {
+    pub graph: Graph,
+    pub places: Vec<u32>,
 }
 
 /// Why a function isn't discovered.

@@ -1,12 +1,13 @@
 //! A walk over the code of a range.
 
-ghost use Rattle.std.specs.Prelude.{◌≡◌, ◌+◌, ◌^◌, ◌≤◌, ◌∷◌, [], ◌++◌, fold, map, length, slice_get, None, IfOk, OnOk};
+ghost use Rattle.std.specs.Prelude.{◌≡◌, ◌+◌, ◌^◌, ◌<◌, ◌≤◌, ◌∷◌, [], ◌++◌, fold, map, length, slice_get, None, IfOk, OnOk, IfErr};
 ghost use Rattle.flow_graph.specs.Discovery.{with_new, number_in};
+ghost use Rattle.flow_graph.specs.Place.{Names};
 ghost use Rattle.flow_graph.specs.Sites.{lesser, least_with};
 
-use crate::place::{Cause, Place};
+use crate::place::{Cause, FlowFault, Found, Place};
 use crate::sites::Site;
-use graph_order::NodeId;
+use graph_order::{Graph, NodeId};
 use indexmap::IndexSet;
 use std::alloc::{AllocError, Global};
 
@@ -97,5 +98,23 @@ impl Walk {
         self.lists.push(numbers)?;
         self.named = least_with(self.named, at, site.cause);
         Ok(())
+    }
+
+    /// The graph of a walk that is over, or its least place.
+    pub(crate) fn finish(self, alloc: Global) -> Result<Found, FlowFault>
+        requires { length self.lists.items < 2 ^ 30 }
+        ensures none { OnOk result (self.named ≡ None) }
+        ensures places { IfOk result (λ f. f.places.items ≡ self.places.keys) }
+        ensures graph { IfOk result (λ f. f.graph ≡ record { entry = 0; succ = map (λ l. l.items) self.lists.items }) }
+        ensures err { IfErr result (Names self.named) }
+    {
+        if let Some(place) = self.named {
+            return Err(FlowFault::Outside(place));
+        }
+        let places = self.places.as_slice().to_vec(alloc)?;
+        match Graph::new(alloc, NodeId(0), self.lists) {
+            Ok(graph) => Ok(Found { graph, places }),
+            Err(_) => Err(FlowFault::Memory),
+        }
     }
 }
