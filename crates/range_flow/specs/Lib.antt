@@ -1,0 +1,4 @@
+pub mod Pieces
+pub mod Flow
+pub mod Plan
+pub mod Laws

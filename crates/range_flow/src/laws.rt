@@ -1,0 +1,18 @@
+//! What holds of the definitions alone, each law the contract of a function without code.
+
+ghost use Rattle.range_flow.specs.Laws.{FlowIsGiven, FlowsAgree, PlannedFlowsAgree};
+
+/// The flow of pieces that each do what the machine does agrees with it.
+pub fn planned_flows_agree()
+    ensures { PlannedFlowsAgree }
+{}
+
+/// The flow of a range agrees with the machine.
+pub fn flows_agree()
+    ensures { FlowsAgree }
+{}
+
+/// The flow of a range may be given to what makes a tree of it.
+pub fn flow_is_given()
+    ensures { FlowIsGiven }
+{}
