@@ -1,0 +1,3 @@
+mod Frozen
+mod Beginning
+pub mod OnePlaces

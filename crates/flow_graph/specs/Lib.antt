@@ -1,0 +1,4 @@
+pub mod Reach
+pub mod Place
+pub mod Discovery
+pub mod Laws
