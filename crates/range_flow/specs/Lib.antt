@@ -2,3 +2,4 @@ pub mod Pieces
 pub mod Flow
 pub mod Plan
 pub mod Laws
+pub mod Nodes

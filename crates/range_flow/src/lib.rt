@@ -4,6 +4,10 @@
 #![tactic(auto)]
 
 mod laws;
+mod joined;
+mod lifted;
+mod nodes;
+mod numbering;
 mod piece;
 
 pub use laws::{flow_is_given, flows_agree, planned_flows_agree};
