@@ -1,3 +1,5 @@
 pub mod Ends
 pub mod Simulates
 pub mod Frozen
+pub mod Members
+pub mod Numbering
