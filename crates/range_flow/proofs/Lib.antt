@@ -3,3 +3,4 @@ pub mod Simulates
 pub mod Frozen
 pub mod Members
 pub mod Numbering
+pub mod Planned
