@@ -7,7 +7,7 @@ use Rattle.std.proofs.lemmas.List.{length-map}
 use Rattle.micro_ir.specs.declared.flow.Block.{Block}
 use Rattle.range_flow.specs.declared.piece.FlowPiece.{FlowPiece}
 use Rattle.range_flow.specs.declared.lifted.Lifted.{Lifted}
-use Rattle.range_flow.specs.declared.numbering.Numbering.{Numbering}
+use Rattle.range_flow.specs.declared.first_nodes.FirstNodes.{FirstNodes}
 use Rattle.range_flow.specs.Pieces.{first_node, node_of, flow_node, moved_block, blocks_from, flow_blocks}
 use Rattle.range_flow.specs.Nodes.{piece_of, pieces_of, total_of, number_from, successor_by, node_by, joined_from, first_by}
 
@@ -51,7 +51,7 @@ number_is n (l ∷ ls) a =
     ∙ ap (λ t. n + (if t then 0 else length l.blocks.items + first_node (pieces_of ls) a)) (same_test a l.at)
 
 -- what is kept tells the first node of each address
-pub first_is : (num : Numbering) (ls : List Lifted) → ((a : ℕ) → get nat_eq num.firsts a ≡ number_from 0 ls a) → num.count ≡ total_of ls
+pub first_is : (num : FirstNodes) (ls : List Lifted) → ((a : ℕ) → get nat_eq num.firsts a ≡ number_from 0 ls a) → num.count ≡ total_of ls
     → first_by num ≡ first_node (pieces_of ls)
 first_is num ls h e = λ i a. at a i
   where
@@ -77,7 +77,7 @@ from_is ps start (l ∷ ls) =
     ∙ ap (λ bs. map (moved_block (flow_node ps start (piece_of l))) l.blocks.items ++ bs) (from_is ps (start + length l.blocks.items) ls)
 
 -- all of them
-pub all_joined : (num : Numbering) (ls : List Lifted) (done : List Block) (rest : List Lifted) → ((a : ℕ) → get nat_eq num.firsts a ≡ number_from 0 ls a)
+pub all_joined : (num : FirstNodes) (ls : List Lifted) (done : List Block) (rest : List Lifted) → ((a : ℕ) → get nat_eq num.firsts a ≡ number_from 0 ls a)
     → num.count ≡ total_of ls → rest ≡ [] → done ++ joined_from (first_by num) (length done) rest ≡ joined_from (first_by num) 0 ls
     → done ≡ flow_blocks (pieces_of ls)
 all_joined num ls done rest h e nil whole =

@@ -3,3 +3,4 @@ pub mod Flow
 pub mod Plan
 pub mod Laws
 pub mod Nodes
+pub mod Lifting

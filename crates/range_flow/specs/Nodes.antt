@@ -4,9 +4,9 @@ use Rattle.std.specs.HashMap.{get}
 use Rattle.micro_ir.specs.declared.flow.Block.{Block}
 use Rattle.range_flow.specs.declared.piece.FlowPiece.{FlowPiece}
 use Rattle.range_flow.specs.declared.lifted.Lifted.{Lifted}
-use Rattle.range_flow.specs.declared.numbering.Numbering.{Numbering}
+use Rattle.range_flow.specs.declared.first_nodes.FirstNodes.{FirstNodes}
 use Rattle.range_flow.specs.declared.nodes.Nodes.{Nodes}
-use Rattle.range_flow.specs.Pieces.{moved_block}
+use Rattle.range_flow.specs.Pieces.{leave_block, moved_block}
 
 -- the piece that was made
 abbrev pub piece_of : Lifted → FlowPiece
@@ -14,6 +14,10 @@ piece_of l = record { at = l.at; blocks = l.blocks.items; successors = l.success
 
 abbrev pub pieces_of : List Lifted → List FlowPiece
 pieces_of = map piece_of
+
+-- the piece of an address outside
+abbrev pub leave_piece : ℕ → FlowPiece
+leave_piece a = record { at = a; blocks = leave_block a ∷ []; successors = [] }
 
 -- how many blocks some have
 abbrev pub total_of : List Lifted → ℕ
@@ -49,9 +53,9 @@ joined_from first start (l ∷ ls) =
 -- ---- what the code keeps
 
 -- the first node of an address, by what is kept
-abbrev pub first_by : Numbering → ℕ → ℕ
+abbrev pub first_by : FirstNodes → ℕ → ℕ
 first_by n a = unwrap_or (get nat_eq n.firsts a) n.count
 
 -- the node of the flow for a node
 abbrev pub node_in : Nodes → ℕ → ℕ
-node_in s = node_by (first_by s.numbering.now) s.start s.count s.successors.now
+node_in s = node_by (first_by s.firsts.now) s.start s.count s.successors.now

@@ -6,7 +6,7 @@ ghost use Rattle.range_flow.specs.Nodes.{first_by, node_by, pieces_of, total_of}
 
 use crate::lifted::Lifted;
 use crate::nodes::{Nodes, push_blocks};
-use crate::numbering::Numbering;
+use crate::first_nodes::FirstNodes;
 use graph_order::NodeId;
 use micro_ir::{Block, Flow};
 use sqlite_items::Items;
@@ -16,11 +16,11 @@ use std::alloc::{AllocError, Global};
 fn push_one(
     alloc: Global,
     flow: &mut Vec<Block>,
-    numbering: &Numbering,
+    firsts: &FirstNodes,
     one: Lifted,
 ) -> Result<(), AllocError>
     requires { length flow.old.items + length one.blocks.items < 2 ^ 32 }
-    ensures { OnOk result (flow.new.items ≡ flow.old.items ++ map (moved_block (node_by (first_by numbering.now) (length flow.old.items) (length one.blocks.items) one.successors.items)) one.blocks.items) }
+    ensures { OnOk result (flow.new.items ≡ flow.old.items ++ map (moved_block (node_by (first_by firsts.now) (length flow.old.items) (length one.blocks.items) one.successors.items)) one.blocks.items) }
 {
     let Lifted {
         at: _at,
@@ -28,7 +28,7 @@ fn push_one(
         successors,
     } = one;
     let nodes = Nodes {
-        numbering,
+        firsts,
         start: flow.len() as u32,
         count: blocks.len() as u32,
         successors: &successors,
@@ -42,10 +42,10 @@ pub fn joined(alloc: Global, all: Vec<Lifted>) -> Result<Flow, AllocError>
     ensures blocks { IfOk result (λ f. f.blocks ≡ flow_blocks (pieces_of all.items)) }
     ensures entry { IfOk result (λ f. f.entry ≡ 0) }
 {
-    let numbering = Numbering::of(alloc, &all)?;
+    let firsts = FirstNodes::of(alloc, &all)?;
     let mut blocks = Vec::new(alloc);
     for one in all {
-        push_one(alloc, &mut blocks, &numbering, one)?;
+        push_one(alloc, &mut blocks, &firsts, one)?;
     }
     Ok(Flow {
         entry: NodeId(0),

@@ -3,12 +3,13 @@
 //! Promised is, as a law on the definitions, that the flow agrees with the machine.
 #![tactic(auto)]
 
-mod laws;
+mod first_nodes;
 mod joined;
+mod laws;
 mod lifted;
 mod nodes;
-mod numbering;
 mod piece;
+mod successors;
 
 pub use laws::{flow_is_given, flows_agree, planned_flows_agree};
 pub use piece::FlowPiece;

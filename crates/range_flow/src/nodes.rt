@@ -6,7 +6,7 @@ ghost use Rattle.micro_ir.specs.Laws.{moved_case, moved_end};
 ghost use Rattle.range_flow.specs.Pieces.{moved_block};
 ghost use Rattle.range_flow.specs.Nodes.{first_by, node_by, node_in};
 
-use crate::numbering::Numbering;
+use crate::first_nodes::FirstNodes;
 use graph_order::NodeId;
 use micro_ir::{Block, Case, End};
 use sqlite_items::Items;
@@ -15,7 +15,7 @@ use std::alloc::{AllocError, Global};
 /// What the nodes that some blocks name are in the flow.
 #[derive(Clone, Copy)]
 pub struct Nodes<'a> {
-    pub numbering: &'a Numbering,
+    pub firsts: &'a FirstNodes,
     /// The node of the first of the blocks.
     pub start: u32,
     /// How many blocks there are.
@@ -33,7 +33,7 @@ fn node(nodes: &Nodes, n: NodeId) -> NodeId
     }
     match nodes.successors.get((n.0 - nodes.count) as usize) {
         None => NodeId(0),
-        Some(a) => NodeId(nodes.numbering.first(*a)),
+        Some(a) => NodeId(nodes.firsts.first(*a)),
     }
 }
 

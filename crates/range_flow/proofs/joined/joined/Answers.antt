@@ -10,7 +10,7 @@ pub loop-one-preserved : goal.loop-one-preserved
 loop-one-preserved c =
     let pushed = c.in_ok-push_one.ensures {u = tt} in
     let steps = (c.in-Some.ensures {u = tt}).steps in
-    let first = first_by c.in_ok-numbering.numbering in
+    let first = first_by c.in_ok-firsts.firsts in
     let done = c.loop-one.blocks.items in
     let len = longer first done c.push_one.new.flow.items c.in-Some.one pushed in
     let left = ap total_of steps.0 in (
@@ -21,7 +21,7 @@ loop-one-preserved c =
 
 pub returns-clause-blocks : goal.returns-clause-blocks
 returns-clause-blocks c =
-    let n = c.in_ok-numbering.ensures {u = tt} in
+    let n = c.in_ok-firsts.ensures {u = tt} in
     let nil : into_iter_items c.loop-one.one-iterator ≡ [] = grind (arith, common_steps) in
-    c.from_vec.ensures ∙ all_joined c.in_ok-numbering.numbering c.args.all.items c.loop-one.blocks.items (into_iter_items c.loop-one.one-iterator)
+    c.from_vec.ensures ∙ all_joined c.in_ok-firsts.firsts c.args.all.items c.loop-one.blocks.items (into_iter_items c.loop-one.one-iterator)
     (λ a. n.firsts a ∙ ap (λ ls. number_from 0 ls a) c.deref.ensures.value) (n.count ∙ ap total_of c.deref.ensures.value) nil c.loop-one.invariant.1

@@ -10,7 +10,7 @@ use std::collections::HashMap;
 
 /// The number of the first block at each address, and how many blocks there are.
 #[derive(Drop)]
-pub struct Numbering {
+pub struct FirstNodes {
     firsts: HashMap<u32, u32>,
     count: u32,
 }
@@ -25,9 +25,9 @@ fn note(firsts: &mut HashMap<u32, u32>, at: u32, number: u32) -> Result<(), Allo
     Ok(())
 }
 
-impl Numbering {
+impl FirstNodes {
     /// The numbers of what is in order.
-    pub fn of(alloc: Global, all: &[Lifted]) -> Result<Numbering, AllocError>
+    pub fn of(alloc: Global, all: &[Lifted]) -> Result<FirstNodes, AllocError>
         requires { total_of all.now < 2 ^ 32 }
         ensures firsts { IfOk result (λ n. (a : ℕ) → get nat_eq n.firsts a ≡ number_from 0 all.now a) }
         ensures count { IfOk result (λ n. n.count ≡ total_of all.now) }
@@ -38,7 +38,7 @@ impl Numbering {
             note(&mut firsts, one.at, count)?;
             count += one.blocks.len() as u32;
         }
-        Ok(Numbering { firsts, count })
+        Ok(FirstNodes { firsts, count })
     }
 
     /// The number of the first block at an address, or the count where there is none.

@@ -1,7 +1,7 @@
 use Rattle.std.proofs.Common.{◌≡◌, ℕ, ◌+◌, nat_eq, drop}
 use Rattle.std.specs.HashMap.{get}
 use Rattle.range_flow.specs.Nodes.{total_of, number_from, or_else}
-use Rattle.range_flow.proofs.numbering.Numbering.of.Given as goal
+use Rattle.range_flow.proofs.first_nodes.FirstNodes.of.Given as goal
 
 abbrev pub invariant-loop-one : goal.invariant-loop-one
 invariant-loop-one l =

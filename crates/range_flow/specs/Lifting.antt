@@ -1,0 +1,24 @@
+-- When blocks are those of the instruction that some code begins with.
+use Rattle.std.specs.Prelude.{◌≡◌, ℕ, ◌+◌, ◌%◌, ◌^◌, ◌≤◌, Bool, true, List, take, length}
+use Rattle.x86_inst.specs.declared.Inst.{Inst}
+use Rattle.x86_inst.specs.declared.Inst.TheVariants as i
+use Rattle.x86_model.specs.Rows.{is_bare}
+use Rattle.x86_inst.specs.Spelling.{Spells}
+use Rattle.x86_model.specs.Successors.{successors_of}
+use Rattle.lift_parts.specs.Lifted.{AreBlocksOf}
+use Rattle.range_flow.specs.declared.lifted.Lifted.{Lifted}
+
+-- They are made for the instruction that the code from an address on begins with.
+pub record IsLiftedFrom (code : List ℕ) (at : ℕ) (l : Lifted) : Type 0 where
+  pub inst : Inst
+  pub size : ℕ
+  pub within : size ≤ length code
+  pub spelled : Spells (take size code) inst
+  pub here : l.at ≡ at
+  pub successors : l.successors.items ≡ successors_of inst at ((at + size) % 2 ^ 32)
+  pub blocks : AreBlocksOf inst at ((at + size) % 2 ^ 32) l.blocks.items
+
+-- Stands for `leaves_bare` of `lift`.
+abbrev pub leaves_bare : Inst → Bool
+leaves_bare (i.JmpTo s) = is_bare s
+leaves_bare _ = true
