@@ -1,6 +1,9 @@
 -- The nodes of a flow, as they are found one piece after another.
-use Rattle.std.specs.Prelude.{ℕ, ◌+◌, ◌-◌, unwrap_or, nat_eq, nat_lt, List, [], ◌∷◌, ◌++◌, length, map, Option, Some, None, slice_get, if◌then◌else◌}
+use Rattle.std.specs.Prelude.{ℕ, Bool, false, not, ◌&&◌, ◌||◌, ◌+◌, ◌-◌, unwrap_or, nat_eq, nat_lt, List, [], ◌∷◌, ◌++◌, length, map, Option, Some, None, slice_get, if◌then◌else◌}
 use Rattle.std.specs.HashMap.{get}
+use Rattle.std.specs.List.{list_any}
+use Rattle.elf_image.specs.declared.range.Range.{Range}
+use Rattle.elf_image.specs.Range.{is_inside}
 use Rattle.micro_ir.specs.declared.flow.Block.{Block}
 use Rattle.range_flow.specs.declared.piece.FlowPiece.{FlowPiece}
 use Rattle.range_flow.specs.declared.lifted.Lifted.{Lifted}
@@ -23,6 +26,11 @@ leave_piece a = record { at = a; blocks = leave_block a ∷ []; successors = [] 
 abbrev pub total_of : List Lifted → ℕ
 total_of [] = 0
 total_of (l ∷ ls) = length l.blocks.items + total_of ls
+
+-- the address is outside, and among the successors
+abbrev pub leads_outside : Range → List Lifted → ℕ → Bool
+leads_outside r [] a = false
+leads_outside r (l ∷ ls) a = not (is_inside r a) && list_any (nat_eq a) l.successors.items || leads_outside r ls a
 
 -- the first of two that there is
 abbrev pub or_else : Option ℕ → Option ℕ → Option ℕ

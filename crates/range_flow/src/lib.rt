@@ -8,6 +8,7 @@ mod joined;
 mod laws;
 mod lifted;
 mod nodes;
+mod outside;
 mod piece;
 mod successors;
 
