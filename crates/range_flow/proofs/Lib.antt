@@ -4,3 +4,6 @@ pub mod Frozen
 pub mod Members
 pub mod Numbering
 pub mod Planned
+pub mod Beginning
+pub mod Covering
+pub mod RangePlan
