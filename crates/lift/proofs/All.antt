@@ -23,14 +23,14 @@ use Rattle.lift_parts.specs.Lifted.{block_count, AreBlocksOf, Matches, Stays, on
 use Rattle.lift_parts.specs.Parts.{reg, writes}
 use Rattle.lift_parts.specs.Stands.{FlagsStand, state_in}
 use Rattle.lift.specs.Blocks.{alu_stmts, test_stmts, step_stmts, neg_stmts, carry_word, mov_stmts, lea_stmts, push_stmts, pop_stmts, xchg_stmts, not_stmts, movx_stmts, widen_word, spread_word, swapped_word, set_stmts, cmov_stmts, leave_stmts, block_of, is_plain}
-use Rattle.lift.specs.Effects.{HasEffect}
+use Rattle.lift_blocks.specs.Effects.{HasEffect}
 use Rattle.lift.specs.Given.{leaves_bare, has_words}
 use Rattle.lift.proofs.Arithmetic.{alu_goes, test_goes, inc_goes, dec_goes, neg_goes, carry_goes}
 use Rattle.lift.proofs.Jumps.{jcc_effect, jecxz_effect, loop_effect, jmp_effect, trap_effect, ret_effect, call_effect, call_to_effect, jmp_to_effect}
 use Rattle.lift.proofs.Keeps.{IsKept, block_kept}
 use Rattle.lift.proofs.Moves.{nop_goes, mov_goes, lea_goes, not_goes, movx_goes, widen_goes, spread_goes, bswap_goes, set_goes, cmov_goes, xchg_goes}
 use Rattle.lift.proofs.Stack.{push_goes, pop_goes, leave_goes}
-use Rattle.lift.proofs.Straight.{goes_effect}
+use Rattle.lift_blocks.proofs.Straight.{goes_effect}
 
 -- ---- effects
 

@@ -42,10 +42,11 @@ use Rattle.lift_alu.specs.Lifts.{CarryIs, IsKnownAs, Lifts}
 use Rattle.lift_alu.specs.Words.{alu_words, flag_clear}
 use Rattle.lift_alu.proofs.Operations.{alu_lifts}
 use Rattle.lift_alu.proofs.Truths.{cond_truth}
-use Rattle.lift.specs.Blocks.{alu_stmts, carry_word, computes, neg_stmts, sets_but_carry, sets_flags, step_stmts, test_stmts}
-use Rattle.lift.specs.Effects.{GoesOn, LeadsOn}
-use Rattle.lift.proofs.Common.{by_step}
-use Rattle.lift.proofs.FlagWords.{AreKnown, Give, Sees, all_but_carry_set, all_set, computes_on, flags_on}
+use Rattle.lift.specs.Blocks.{alu_stmts, carry_word, neg_stmts, step_stmts, test_stmts}
+use Rattle.lift_blocks.specs.Flags.{computes, sets_but_carry, sets_flags}
+use Rattle.lift_blocks.specs.Effects.{GoesOn, LeadsOn}
+use Rattle.lift_blocks.proofs.Common.{by_step}
+use Rattle.lift_blocks.proofs.FlagWords.{AreKnown, Give, Sees, all_but_carry_set, all_set, computes_on, flags_on}
 
 -- ---- the flags and the result of an operation
 

@@ -45,8 +45,8 @@ use Rattle.lift_alu.specs.Lifts.{IsKnownAs}
 use Rattle.lift_alu.specs.Words.{cond_words}
 use Rattle.lift_alu.proofs.Truths.{cond_truth}
 use Rattle.lift.specs.Blocks.{target, counts_down, call_stmts, call_to_stmts, block_of}
-use Rattle.lift.specs.Effects.{HasEffect}
-use Rattle.lift.proofs.Does.{num_is, name_is, bin_is, cmp_is, minus_is, set_does, load_does, store_does, ext_does, trap_does, names_of, flags_reg, flags_answered, stands_here}
+use Rattle.lift_blocks.specs.Effects.{HasEffect}
+use Rattle.lift_blocks.proofs.Does.{num_is, name_is, bin_is, cmp_is, minus_is, set_does, load_does, store_does, ext_does, trap_does, names_of, flags_reg, flags_answered, stands_here}
 use Rattle.lift_parts.proofs.Values.{address_is, reg_is, load_fits}
 use Rattle.lift_parts.proofs.Writes.{store_low}
 

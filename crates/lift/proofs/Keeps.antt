@@ -40,7 +40,10 @@ use Rattle.lift_parts.specs.Parts.{reg, temp, address_word, raw_word, value_word
 use Rattle.lift_alu.specs.declared.alu.AluLift.{AluLift}
 use Rattle.lift_alu.specs.Words.{alu_words, cond_words, flag_clear}
 use Rattle.lift_alu.proofs.Shapes.{flow_word, flow_cond}
-use Rattle.lift.specs.Blocks.{goes_on, branches, returns, target, sets_but_carry, sets_flags, computes, alu_stmts, test_stmts, step_stmts, neg_stmts, carry_word, mov_stmts, lea_stmts, not_stmts, xchg_stmts, extended, movx_stmts, widen_word, spread_word, swapped_word, set_stmts, cmov_stmts, push_stmts, pops, pop_stmts, leave_stmts, counts_down, call_stmts, call_to_stmts, block_of, is_plain}
+use Rattle.lift_blocks.specs.Ends.{goes_on, branches, returns}
+use Rattle.lift.specs.Blocks.{target, alu_stmts, test_stmts, step_stmts, neg_stmts, carry_word, mov_stmts, lea_stmts, not_stmts, xchg_stmts, movx_stmts, widen_word, spread_word, swapped_word, set_stmts, cmov_stmts, push_stmts, pops, pop_stmts, leave_stmts, counts_down, call_stmts, call_to_stmts, block_of, is_plain}
+use Rattle.lift_blocks.specs.Flags.{sets_but_carry, sets_flags, computes}
+use Rattle.lift_blocks.specs.Extended.{extended}
 use Rattle.lift.specs.Given.{leaves_bare, has_words}
 use Rattle.lift.proofs.Sound.{IsSound, IsSoundCond, AreSoundWords, both_true, num_sound, name_sound, reg_sound, temp_sound, deeper_sound, bin_sound, shift_sound, and_mask_sound, fn1_sound, fn2_sound, not_sound, pick_sound, cmp_sound, cond_sound, raw_sound, value_sound, address_sound, alu_sound}
 use Rattle.lift.proofs.Steady.{AreSteady, LeadsBelow, none_steady, set_steady, load_steady, ext_steady, trap_steady, reads_steady, reads_end, pair_reads_steady, writes_steady, write_steady, pushes_steady, branch_below, leave_below, block_rule, block_steady}

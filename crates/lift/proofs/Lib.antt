@@ -1,11 +1,7 @@
-pub mod Common
-mod MoveWords
+mod SwappedWords
 mod Moves
 mod Stack
-mod FlagWords
 mod Arithmetic
-mod Straight
-mod Does
 mod Jumps
 mod Sound
 mod Steady

@@ -33,13 +33,15 @@ use Rattle.lift_parts.specs.Shown.{AreNames, Runs, Shows, ShowsRead}
 use Rattle.lift_parts.specs.Stands.{FlagsStand, Stands, state_in}
 use Rattle.lift_alu.specs.Words.{cond_words}
 use Rattle.lift_alu.proofs.Truths.{cond_truth}
-use Rattle.lift.specs.Blocks.{cmov_stmts, exchanges, extended, lea_stmts, mov_stmts, movx_stmts, not_stmts, set_stmts, spread_word, swapped_word, widen_word, xchg_stmts}
-use Rattle.lift.specs.Effects.{GoesOn, LeadsOn, after}
+use Rattle.lift.specs.Blocks.{cmov_stmts, exchanges, lea_stmts, mov_stmts, movx_stmts, not_stmts, set_stmts, spread_word, swapped_word, widen_word, xchg_stmts}
+use Rattle.lift_blocks.specs.Extended.{extended}
+use Rattle.lift_blocks.specs.Effects.{GoesOn, LeadsOn, after}
 use Rattle.lift_parts.proofs.Chains.{none_run, runs_append, set_runs}
 use Rattle.lift_parts.proofs.Kept.{AfterRead, flags_stay, pair_reads_run, reads_run}
-use Rattle.lift.proofs.Common.{KeepsRest, by_step, leads_next, local_kept, put_flags, put_go, puts_after_read, puts_at_once, read_keeps, reads_flags, written_stands}
+use Rattle.lift_blocks.proofs.Common.{KeepsRest, by_step, leads_next, local_kept, put_flags, put_go, puts_after_read, puts_at_once, read_keeps, reads_flags, written_stands}
 use Rattle.lift_parts.proofs.Writes.{part_again, names_set, part_runs, shows_temp, writes_run}
-use Rattle.lift.proofs.MoveWords.{extended_again, extended_below, extended_value, fn2_value, same_low, low_not, low_ones, name_value, not_value, num_value, ones_below, pick_value, sign_again, spread_is, swapped_below, swapped_value, word_if_value}
+use Rattle.lift_blocks.proofs.MoveWords.{extended_again, extended_below, extended_value, fn2_value, same_low, low_not, low_ones, name_value, not_value, num_value, ones_below, pick_value, sign_again, spread_is, word_if_value}
+use Rattle.lift.proofs.SwappedWords.{swapped_below, swapped_value}
 use Rattle.lift_parts.proofs.Values.{address_is, raw_is, reg_is, value_is, value_is_word}
 
 -- NOP

@@ -27,10 +27,10 @@ use Rattle.lift_parts.proofs.Chains.{load_runs, none_run, runs_append, set_runs}
 use Rattle.lift_parts.proofs.Values.{load_fits, raw_is}
 use Rattle.lift_parts.proofs.Writes.{Pushed, names_set, pushes_run, reg_set, shows_temp}
 use Rattle.lift.specs.Blocks.{leave_stmts, pop_stmts, pops, push_stmts}
-use Rattle.lift.specs.Effects.{GoesOn, LeadsOn, after}
+use Rattle.lift_blocks.specs.Effects.{GoesOn, LeadsOn, after}
 use Rattle.lift_parts.proofs.Kept.{AfterRead, flags_stay, reads_run}
-use Rattle.lift.proofs.Common.{KeepsRest, by_step, kept, leads_next, local_kept, puts_from, read_keeps, reg_kept}
-use Rattle.lift.proofs.MoveWords.{bin_value, same_low, name_value, num_value}
+use Rattle.lift_blocks.proofs.Common.{KeepsRest, by_step, kept, leads_next, local_kept, puts_from, read_keeps, reg_kept}
+use Rattle.lift_blocks.proofs.MoveWords.{bin_value, same_low, name_value, num_value}
 
 -- ---- PUSH
 

@@ -18,50 +18,24 @@ use Rattle.x86_model.specs.Operands.{bits_of, width_of}
 use Rattle.x86_model.specs.Successors.{is_memory, writes as writes_operand}
 use Rattle.c_syntax.specs.declared.syntax.CBin.TheVariants as op
 use Rattle.c_syntax.specs.declared.syntax.CCmp.TheVariants as cmp
-use Rattle.c_syntax.specs.declared.syntax.CFn1.TheVariants.{Sx1, Sx2}
 use Rattle.c_syntax.specs.declared.syntax.CFn2.TheVariants.{Sar}
 use Rattle.c_syntax.specs.declared.syntax.CExpr.{CExpr}
-use Rattle.c_syntax.specs.declared.syntax.CCond.{CCond}
-use Rattle.c_words.specs.Built.{num, bin, fn1, fn2, pick, word_not, word_if, cmp as compare}
+use Rattle.c_words.specs.Built.{num, bin, fn2, pick, word_not, word_if, cmp as compare}
 use Rattle.micro_ir.specs.declared.flow.Stmt.{Stmt}
 use Rattle.micro_ir.specs.declared.flow.Stmt.TheVariants as stmt
 use Rattle.micro_ir.specs.declared.flow.End.TheVariants as end
 use Rattle.micro_ir.specs.declared.flow.Block.{Block}
 use Rattle.lift_parts.specs.Parts.{reg, temp, raw_word, value_word, address_word, reads, pair_reads, writes, pushes}
-use Rattle.lift_alu.specs.declared.alu.AluLift.{AluLift}
 use Rattle.lift_alu.specs.Words.{alu_words, cond_words, flag_clear}
-
--- ---- ends
-
--- statements, and then on to the first successor
-abbrev pub goes_on : ℕ → List Stmt → Block
-goes_on at stmts = record { at = at; stmts = stmts; end = end.Go 1 }
-
--- statements, and then to the target where the condition is true, else on
-abbrev pub branches : ℕ → List Stmt → CCond → Block
-branches at stmts t = record { at = at; stmts = stmts; end = end.Branch t 1 2 }
-
--- statements, and then a return
-abbrev pub returns : ℕ → List Stmt → Block
-returns at stmts = record { at = at; stmts = stmts; end = end.Return }
+use Rattle.lift_blocks.specs.Ends.{goes_on, branches, returns}
+use Rattle.lift_blocks.specs.Flags.{sets_but_carry, sets_flags, computes}
+use Rattle.lift_blocks.specs.Extended.{extended}
 
 -- the target of a jump over a distance
 abbrev pub target : ℕ → ℕ → CExpr
 target next distance = num ((next + distance) % 2 ^ 32)
 
 -- ---- arithmetic
-
--- OF, SF, ZF and PF are set
-abbrev pub sets_but_carry : AluLift → List Stmt
-sets_but_carry l = stmt.Set (Flag 4) l.o ∷ stmt.Set (Flag 3) l.s ∷ stmt.Set (Flag 2) l.z ∷ stmt.Set (Flag 1) l.p ∷ []
-
--- all flags are set; CF, which the other words may read, comes last
-abbrev pub sets_flags : AluLift → List Stmt
-sets_flags l = sets_but_carry l ++ stmt.Set (Flag 0) l.c ∷ []
-
--- a result is kept, the flags are set, and the result is written
-abbrev pub computes : Size → Operand → List Stmt → CExpr → List Stmt
-computes size d flags result = stmt.Set (T 2) result ∷ (flags ++ writes size d (temp 2))
 
 -- ADD, OR, ADC, SBB, AND, SUB, XOR, and CMP, which writes nothing
 abbrev pub alu_stmts : AluOp → Size → Operand → Operand → List Stmt
@@ -108,12 +82,6 @@ exchanges size d s =
 
 abbrev pub xchg_stmts : Size → Operand → Operand → List Stmt
 xchg_stmts size d s = pair_reads size d s ++ stmt.Set (T 2) (raw_word size d) ∷ stmt.Set (T 3) (raw_word size s) ∷ exchanges size d s
-
--- a word extended by its sign from a size
-abbrev pub extended : Size → CExpr → CExpr
-extended B e = fn1 Sx1 e
-extended H e = fn1 Sx2 e
-extended W e = e
 
 -- MOVSX and MOVZX
 abbrev pub movx_stmts : Bool → Size → Size → ℕ → Operand → List Stmt

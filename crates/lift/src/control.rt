@@ -3,18 +3,19 @@
 ghost use Rattle.std.specs.Prelude.{◌≡◌, ◌+◌, ◌^◌, [], ◌∷◌, ◌++◌, nat_lt, true, IfOk, OnOk};
 ghost use Rattle.c_words.specs.Built.{cmp as compare, num as num_of};
 ghost use Rattle.c_syntax.specs.declared.syntax.CCmp.TheVariants as test;
-ghost use Rattle.lift.specs.Blocks.{branches as branches_of, goes_on as goes_on_of, returns as returns_of, target as target_of, counts_down as counts_down_of, pops as pops_of, call_stmts, call_to_stmts};
+ghost use Rattle.lift_blocks.specs.Ends.{branches as branches_of, goes_on as goes_on_of, returns as returns_of};
+ghost use Rattle.lift.specs.Blocks.{target as target_of, counts_down as counts_down_of, pops as pops_of, call_stmts, call_to_stmts};
 ghost use Rattle.lift_alu.specs.Words.{cond_words};
 ghost use Rattle.lift_parts.specs.Parts.{reg as reg_word, reads, raw_word as raw_word_of};
 ghost use Rattle.micro_ir.specs.declared.flow.End.TheVariants as end;
 ghost use Rattle.micro_ir.specs.declared.flow.Stmt.TheVariants as stmt;
 ghost use Rattle.x86_inst.specs.declared.Size.TheVariants.{W};
 
-use crate::blocks::{branches, goes_on, returns};
 use crate::pushes::pops;
 use c_words::{bin, cmp, num};
 use dream_words::Name;
 use lift_alu::lift_cond;
+use lift_blocks::{branches, goes_on, returns};
 use lift_parts::{push_pushes, push_reads, raw_word, reg, temp};
 use micro_ir::{Bin, Block, Cmp, End, Expr, Stmt};
 use sqlite_items::Items;

@@ -3,7 +3,6 @@
 //! Promised are blocks that have its effect from every state, are never stuck, and lead to its successors.
 #![tactic(auto)]
 
-mod blocks;
 mod control;
 mod operations;
 mod pushes;
@@ -15,6 +14,7 @@ ghost use Rattle.lift.specs.Given.{leaves_bare, has_words};
 ghost use Rattle.lift_parts.specs.Lifted.{AreBlocksOf};
 ghost use Rattle.x86_formed.specs.Formed.{HasSpelling};
 
+use lift_blocks::{goes_on, nothing};
 use micro_ir::Block;
 use std::alloc::{AllocError, Global};
 use x86_inst::Inst;
@@ -55,8 +55,8 @@ fn block(alloc: Global, i: Inst, at: u32, next: u32) -> Result<Block, AllocError
         Inst::Push(s) => pushes::push(alloc, at, s),
         Inst::Pop(d) => pushes::pop(alloc, at, d),
         Inst::Leave => pushes::leave(alloc, at),
-        Inst::Nop => Ok(blocks::goes_on(at, Vec::new(alloc))),
-        Inst::Jmp(_) => Ok(blocks::goes_on(at, Vec::new(alloc))),
+        Inst::Nop => Ok(goes_on(at, Vec::new(alloc))),
+        Inst::Jmp(_) => Ok(goes_on(at, Vec::new(alloc))),
         Inst::Loop(_) => control::counted(alloc, at),
         Inst::Jecxz(_) => Ok(control::jecxz(alloc, at)),
         Inst::Jcc(c, _) => control::jcc(alloc, at, c),
@@ -65,16 +65,16 @@ fn block(alloc: Global, i: Inst, at: u32, next: u32) -> Result<Block, AllocError
         Inst::CallTo(s) => control::call_to(alloc, at, next, s),
         Inst::Ret(n) => control::ret(alloc, at, n),
         Inst::Trap(v) => control::trap(alloc, at, v),
-        Inst::Mul(_, _) => Ok(blocks::nothing(alloc, at)),
-        Inst::ImulWide(_, _) => Ok(blocks::nothing(alloc, at)),
-        Inst::Imul2(_, _, _) => Ok(blocks::nothing(alloc, at)),
-        Inst::Imul3(_, _, _, _) => Ok(blocks::nothing(alloc, at)),
-        Inst::Div(_, _) => Ok(blocks::nothing(alloc, at)),
-        Inst::Idiv(_, _) => Ok(blocks::nothing(alloc, at)),
-        Inst::Shift(_, _, _, _) => Ok(blocks::nothing(alloc, at)),
-        Inst::DShift(_, _, _, _) => Ok(blocks::nothing(alloc, at)),
-        Inst::Bit(_, _, _, _) => Ok(blocks::nothing(alloc, at)),
-        Inst::Scan(_, _, _, _, _) => Ok(blocks::nothing(alloc, at)),
-        Inst::Str(_, _, _, _) => Ok(blocks::nothing(alloc, at)),
+        Inst::Mul(_, _) => Ok(nothing(alloc, at)),
+        Inst::ImulWide(_, _) => Ok(nothing(alloc, at)),
+        Inst::Imul2(_, _, _) => Ok(nothing(alloc, at)),
+        Inst::Imul3(_, _, _, _) => Ok(nothing(alloc, at)),
+        Inst::Div(_, _) => Ok(nothing(alloc, at)),
+        Inst::Idiv(_, _) => Ok(nothing(alloc, at)),
+        Inst::Shift(_, _, _, _) => Ok(nothing(alloc, at)),
+        Inst::DShift(_, _, _, _) => Ok(nothing(alloc, at)),
+        Inst::Bit(_, _, _, _) => Ok(nothing(alloc, at)),
+        Inst::Scan(_, _, _, _, _) => Ok(nothing(alloc, at)),
+        Inst::Str(_, _, _, _) => Ok(nothing(alloc, at)),
     }
 }

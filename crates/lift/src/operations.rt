@@ -2,17 +2,19 @@
 
 ghost use Rattle.std.specs.Prelude.{◌≡◌, [], ◌∷◌, ◌++◌, IfOk, OnOk};
 ghost use Rattle.dream_words.specs.declared.machine.Name.TheVariants.{Flag};
-ghost use Rattle.lift.specs.Blocks.{goes_on as goes_on_of, sets_but_carry, sets_flags, computes, alu_stmts, test_stmts, step_stmts, neg_stmts, carry_word as carry_word_of};
+ghost use Rattle.lift_blocks.specs.Ends.{goes_on as goes_on_of};
+ghost use Rattle.lift_blocks.specs.Flags.{sets_but_carry, sets_flags, computes};
+ghost use Rattle.lift.specs.Blocks.{alu_stmts, test_stmts, step_stmts, neg_stmts, carry_word as carry_word_of};
 ghost use Rattle.lift_alu.specs.Words.{alu_words as alu_words_of};
 ghost use Rattle.micro_ir.specs.declared.flow.Stmt.TheVariants as stmt;
 ghost use Rattle.x86_inst.specs.declared.AluOp.TheVariants as op;
 ghost use Rattle.x86_model.specs.Operands.{bits_of};
 ghost use Rattle.x86_model.specs.Successors.{writes as writes_operand};
 
-use crate::blocks::goes_on;
 use c_words::{cmp, num, word_if};
 use dream_words::Name;
 use lift_alu::{AluLift, lift_alu};
+use lift_blocks::{goes_on, push_but_carry, push_flags};
 use lift_parts::{flag, push_pair_reads, push_reads, push_writes, raw_word, temp};
 use micro_ir::{Block, Cmp, Expr, Stmt};
 use std::alloc::{AllocError, Global};
@@ -27,32 +29,6 @@ fn alu_words(alloc: Global, op: AluOp, size: Size, a: Expr, b: Expr) -> Result<A
         Size::H => lift_alu::<16>(alloc, op, a, b),
         Size::W => lift_alu::<32>(alloc, op, a, b),
     }
-}
-
-// Sets OF, SF, ZF and PF.
-fn push_but_carry(
-    stmts: &mut Vec<Stmt>,
-    p: Expr,
-    z: Expr,
-    s: Expr,
-    o: Expr,
-) -> Result<(), AllocError>
-    ensures { OnOk result (stmts.new.items ≡ stmts.old.items ++ stmt.Set (Flag 4) o ∷ stmt.Set (Flag 3) s ∷ stmt.Set (Flag 2) z ∷ stmt.Set (Flag 1) p ∷ []) }
-{
-    stmts.push(Stmt::Set(Name::Flag(4), o))?;
-    stmts.push(Stmt::Set(Name::Flag(3), s))?;
-    stmts.push(Stmt::Set(Name::Flag(2), z))?;
-    stmts.push(Stmt::Set(Name::Flag(1), p))?;
-    Ok(())
-}
-
-// Sets all flags and nothing else.
-fn push_flags(stmts: &mut Vec<Stmt>, l: AluLift) -> Result<(), AllocError>
-    ensures { OnOk result (stmts.new.items ≡ stmts.old.items ++ sets_flags l) }
-{
-    push_but_carry(stmts, l.p, l.z, l.s, l.o)?;
-    stmts.push(Stmt::Set(Name::Flag(0), l.c))?;
-    Ok(())
 }
 
 // Keeps the result, sets all flags, and writes the result.

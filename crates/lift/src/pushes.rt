@@ -1,11 +1,12 @@
 //! Pushes and pops.
 
 ghost use Rattle.std.specs.Prelude.{◌≡◌, IfOk};
-ghost use Rattle.lift.specs.Blocks.{goes_on as goes_on_of, push_stmts, pop_stmts, pops as pops_of, leave_stmts};
+ghost use Rattle.lift_blocks.specs.Ends.{goes_on as goes_on_of};
+ghost use Rattle.lift.specs.Blocks.{push_stmts, pop_stmts, pops as pops_of, leave_stmts};
 
-use crate::blocks::goes_on;
 use c_words::{bin, num};
 use dream_words::{Name, Width};
+use lift_blocks::goes_on;
 use lift_parts::{push_pushes, push_reads, push_writes, raw_word, reg, temp};
 use micro_ir::{Bin, Block, Stmt};
 use std::alloc::{AllocError, Global};

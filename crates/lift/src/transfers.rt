@@ -3,16 +3,18 @@
 ghost use Rattle.std.specs.Prelude.{◌≡◌, ◌++◌, if◌then◌else◌, IfOk, OnOk};
 ghost use Rattle.c_words.specs.Built.{bin as bin_of, num as num_of};
 ghost use Rattle.c_syntax.specs.declared.syntax.CBin.TheVariants as op;
-ghost use Rattle.lift.specs.Blocks.{goes_on as goes_on_of, mov_stmts, lea_stmts, not_stmts, exchanges, xchg_stmts, extended as extended_of, movx_stmts, widen_word as widen_word_of, spread_word as spread_word_of, swapped_word as swapped_word_of, set_stmts, cmov_stmts};
+ghost use Rattle.lift_blocks.specs.Ends.{goes_on as goes_on_of};
+ghost use Rattle.lift.specs.Blocks.{mov_stmts, lea_stmts, not_stmts, exchanges, xchg_stmts, movx_stmts, widen_word as widen_word_of, spread_word as spread_word_of, swapped_word as swapped_word_of, set_stmts, cmov_stmts};
+ghost use Rattle.lift_blocks.specs.Extended.{extended as extended_of};
 ghost use Rattle.lift_parts.specs.Parts.{reg as reg_word, raw_word as raw_word_of, value_word as value_word_of, writes};
 ghost use Rattle.x86_inst.specs.declared.Operand.TheVariants as o;
 ghost use Rattle.x86_inst.specs.declared.Size.TheVariants.{W};
 ghost use Rattle.x86_model.specs.Successors.{is_memory as is_memory_operand};
 
-use crate::blocks::goes_on;
 use c_words::{bin, fn1, fn2, num, pick, word_if, word_not};
 use dream_words::Name;
 use lift_alu::lift_cond;
+use lift_blocks::{extended, goes_on};
 use lift_parts::{
     address_word, push_pair_reads, push_reads, push_writes, raw_word, reg, temp, value_word,
 };
@@ -100,17 +102,6 @@ pub fn xchg(alloc: Global, at: u32, size: Size, d: Operand, s: Operand) -> Resul
     stmts.push(Stmt::Set(Name::T(3), raw_word(alloc, size, s)?))?;
     push_exchange(alloc, &mut stmts, size, d, s)?;
     Ok(goes_on(at, stmts))
-}
-
-// A word extended by its sign from a size.
-fn extended(alloc: Global, size: Size, e: Expr) -> Result<Expr, AllocError>
-    ensures { IfOk result (λ r. r ≡ extended_of size e) }
-{
-    match size {
-        Size::B => fn1(alloc, Fn1::Sx1, e),
-        Size::H => fn1(alloc, Fn1::Sx2, e),
-        Size::W => Ok(e),
-    }
 }
 
 // An operand's value, extended by its sign or by zeros.

@@ -3,6 +3,8 @@ use Rattle.std.specs.Prelude.{◌≡◌, ℕ, ◌+◌, ◌<◌, nat_lt, Bool, Li
 use Rattle.dream_words.specs.declared.machine.Flags.{Flags}
 use Rattle.x86_inst.specs.declared.Inst.{Inst}
 use Rattle.x86_inst.specs.declared.Inst.TheVariants as i
+use Rattle.x86_inst.specs.declared.Rep.{Rep}
+use Rattle.x86_inst.specs.declared.Rep.TheVariants as rep
 use Rattle.x86_model.specs.Machine.{Onward, At, Finished, Strays, Blank, State, Ending, ending_outcome}
 use Rattle.x86_model.specs.Leads.{instruction_does}
 use Rattle.x86_model.specs.Successors.{successors_of, stores, asks}
@@ -75,12 +77,20 @@ TwoEnd P Q (a ∷ []) = ⊥
 TwoEnd P Q (a ∷ b ∷ []) = P a.end × Q b.end
 TwoEnd P Q (a ∷ b ∷ c ∷ rest) = ⊥
 
--- The ends of an instruction's blocks, but for those of repeated string instructions: a branch goes to its target or on.
+-- The end of a round of a repeated string instruction: REP stands again, REPE and REPNE stand again or go on.
+abbrev pub EndsRound : Rep → BlockEnd → Type 0
+EndsRound rep.No e = ⊥
+EndsRound rep.Rep e = e ≡ end.Go 2
+EndsRound rep.Repe e = IsBranch 2 3 e
+EndsRound rep.Repne e = IsBranch 2 3 e
+
+-- The ends of an instruction's blocks: a branch goes to its target or on; the test of a repeated string instruction goes to
+-- the round or on; no other end is a Branch or a Switch.
 abbrev pub EndAs : Inst → List Block → Type 0
 EndAs (i.Jcc c distance) blocks = OneEnds (IsBranch 1 2) blocks
 EndAs (i.Loop distance) blocks = OneEnds (IsBranch 1 2) blocks
 EndAs (i.Jecxz distance) blocks = OneEnds (IsBranch 1 2) blocks
-EndAs (i.Str op size r s) blocks = MatchBool (repeats r) (TwoEnd (IsBranch 1 3) (λ e. Unit {0}) blocks) (OneEnds IsPlain blocks)
+EndAs (i.Str op size r s) blocks = MatchBool (repeats r) (TwoEnd (IsBranch 1 3) (EndsRound r) blocks) (OneEnds IsPlain blocks)
 EndAs _ blocks = OneEnds IsPlain blocks
 
 -- each block stands for code at the address

@@ -1,7 +1,7 @@
 //! Blocks by their statements and their ends.
 
 ghost use Rattle.std.specs.Prelude.{◌≡◌, []};
-ghost use Rattle.lift.specs.Blocks.{goes_on as goes_on_of, branches as branches_of, returns as returns_of};
+ghost use Rattle.lift_blocks.specs.Ends.{goes_on as goes_on_of, branches as branches_of, returns as returns_of};
 
 use graph_order::NodeId;
 use micro_ir::{Block, Cond, End, Stmt};

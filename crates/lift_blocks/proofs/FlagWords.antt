@@ -27,9 +27,9 @@ use Rattle.lift_parts.proofs.Kept.{AfterRead, flags_stay}
 use Rattle.lift_parts.proofs.Writes.{Written, names_set, shows_flag, shows_temp, writes_run}
 use Rattle.lift_alu.specs.declared.alu.AluLift.{AluLift}
 use Rattle.lift_alu.specs.Lifts.{Lifts, Shows as IsShownBy}
-use Rattle.lift.specs.Blocks.{computes, sets_but_carry, sets_flags}
-use Rattle.lift.specs.Effects.{LeadsOn, after}
-use Rattle.lift.proofs.Common.{leads_next, put_flags, put_go}
+use Rattle.lift_blocks.specs.Flags.{computes, sets_but_carry, sets_flags}
+use Rattle.lift_blocks.specs.Effects.{LeadsOn, after}
+use Rattle.lift_blocks.proofs.Common.{leads_next, put_flags, put_go}
 
 -- ---- what is known while flags are set
 

@@ -25,7 +25,7 @@ use Rattle.lift_parts.specs.Parts.{writes}
 use Rattle.lift_parts.specs.Shown.{AreNames, Runs, Shows}
 use Rattle.lift_parts.specs.Stands.{FlagsStand, Stands, state_in}
 use Rattle.lift_alu.specs.Lifts.{IsKnownAs}
-use Rattle.lift.specs.Effects.{GoesOn, LeadsOn, after}
+use Rattle.lift_blocks.specs.Effects.{GoesOn, LeadsOn, after}
 use Rattle.lift_parts.proofs.Kept.{AfterRead, flags_stay}
 use Rattle.lift_parts.proofs.Chains.{none_run, runs_append}
 use Rattle.lift_parts.proofs.Values.{names_of_world}

@@ -1,11 +1,9 @@
 -- What the words of moves give.
-use Rattle.std.proofs.Common.{◌≡◌, ℕ, ℤ, pos, negsuc, ◌+◌, ◌-◌, ◌*◌, ◌/◌, ◌%◌, ◌^◌, ◌<◌, ◌≤◌, ◌-ℤ◌, Bool, true, false, nat_le, bit_and, bit_or, Some, refl, sym, ap, ◌∙◌, arith}
+use Rattle.std.proofs.Common.{◌≡◌, ℕ, ℤ, pos, negsuc, ◌+◌, ◌-◌, ◌^◌, ◌<◌, ◌≤◌, ◌-ℤ◌, Bool, true, false, nat_le, Some, refl, sym, ap, ◌∙◌, arith}
 use Rattle.std.specs.Prelude.{if◌then◌else◌, unsigned_abs}
 use Rattle.std.specs.Int.{int_rem_euclid}
 use Rattle.std.proofs.lemmas.Bool.Decides.{nat_tests}
 use Rattle.std.proofs.lemmas.Int.{int_rem_euclid_is, ints}
-use Rattle.std.proofs.lemmas.Nat.{or_shifted}
-use Rattle.std.proofs.lemmas.Nat.Bits.{and_high}
 use Rattle.std.proofs.Math.Nat.{mod-eq_of_lt}
 use Rattle.dream_words.specs.declared.machine.Name.{Name}
 use Rattle.dream_words.specs.Words.{bit_of, low_part, shifted_signed, sign_bit, sign_extended, signed_part, word_of as word_taken}
@@ -13,7 +11,6 @@ use Rattle.run_parts.specs.World.{Names}
 use Rattle.x86_inst.specs.declared.Size.{Size}
 use Rattle.x86_inst.specs.declared.Size.TheVariants.{B, H, W}
 use Rattle.x86_model.specs.Operands.{bits_of}
-use Rattle.x86_model.specs.Rows.{swapped}
 use Rattle.c_syntax.specs.declared.syntax.CBin.{CBin}
 use Rattle.c_syntax.specs.declared.syntax.CFn1.{CFn1}
 use Rattle.c_syntax.specs.declared.syntax.CFn1.TheVariants.{Sx1, Sx2}
@@ -25,7 +22,7 @@ use Rattle.c_syntax.specs.Words.{bin_of, fn1_of, fn2_of}
 use Rattle.c_words.specs.Built.{bin, fn1, fn2, name, num, pick, word_if, word_not}
 use Rattle.c_words.proofs.Layers.{word_layer}
 use Rattle.lift_parts.proofs.Values.{low_again}
-use Rattle.lift.specs.Blocks.{extended, swapped_word}
+use Rattle.lift_blocks.specs.Extended.{extended}
 
 -- ---- one layer
 
@@ -142,32 +139,3 @@ low_ones W true = refl
 low_ones B false = refl
 low_ones H false = refl
 low_ones W false = refl
-
--- ---- the order of bytes
-
--- four bytes one above another
-bytes_or : (a b c d : ℕ) → b < 2 ^ 8 → c < 2 ^ 8 → d < 2 ^ 8
-    → bit_or (a * 2 ^ 24) (bit_or (b * 2 ^ 16) (bit_or (c * 2 ^ 8) d)) ≡ a * 2 ^ 24 + b * 2 ^ 16 + c * 2 ^ 8 + d
-bytes_or a b c d k l m =
-    ap (λ y. bit_or (a * 2 ^ 24) (bit_or (b * 2 ^ 16) y)) (or_shifted c 8 d m)
-    ∙ ap (bit_or (a * 2 ^ 24)) (or_shifted b 16 (c * 2 ^ 8 + d) (omega arith))
-    ∙ or_shifted a 24 (b * 2 ^ 16 + (c * 2 ^ 8 + d)) (omega arith)
-    ∙ omega arith
-
-swapped_by : (x : ℕ) → x < 2 ^ 32
-    → bit_or (low_part 32 (x * 2 ^ 24)) (bit_or (bit_and (low_part 32 (x * 2 ^ 8)) 0xff0000) (bit_or (bit_and (x / 2 ^ 8) 0xff00) (x / 2 ^ 24))) ≡ swapped x
-swapped_by x l =
-    let top : low_part 32 (x * 2 ^ 24) ≡ x % 2 ^ 8 * 2 ^ 24 = omega arith in
-    let third : bit_and (low_part 32 (x * 2 ^ 8)) 0xff0000 ≡ x / 2 ^ 8 % 2 ^ 8 * 2 ^ 16 = and_high (low_part 32 (x * 2 ^ 8)) 8 16 ∙ omega arith in
-    let second : bit_and (x / 2 ^ 8) 0xff00 ≡ x / 2 ^ 16 % 2 ^ 8 * 2 ^ 8 = and_high (x / 2 ^ 8) 8 8 ∙ omega arith in
-    rw (top, third, second) (bytes_or (x % 2 ^ 8) (x / 2 ^ 8 % 2 ^ 8) (x / 2 ^ 16 % 2 ^ 8) (x / 2 ^ 24) (omega arith) (omega arith) (omega arith) ∙ omega arith)
-
-pub swapped_below : (x : ℕ) → swapped x < 2 ^ 32
-swapped_below x = omega arith
-
-pub swapped_value : (v : Names) (e : CExpr) (x : ℕ) → word_of e v ≡ Some x → x < 2 ^ 32 → word_of (swapped_word e) v ≡ Some (swapped x)
-swapped_value v e x h l = by_value (swapped_by x l)
-  where
-    by_value : bit_or (low_part 32 (x * 2 ^ 24)) (bit_or (bit_and (low_part 32 (x * 2 ^ 8)) 0xff0000) (bit_or (bit_and (x / 2 ^ 8) 0xff00) (x / 2 ^ 24))) ≡ swapped x
-        → word_of (swapped_word e) v ≡ Some (swapped x)
-    by_value q = simp (word_layer, h) (ap Some q)

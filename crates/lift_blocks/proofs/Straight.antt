@@ -15,8 +15,8 @@ use Rattle.micro_ir.specs.Run.{enter, block_leads, end_leads}
 use Rattle.lift_parts.specs.Stands.{state_in}
 use Rattle.lift_parts.specs.Lifted.{Matches, through}
 use Rattle.lift_parts.specs.Shown.{Runs}
-use Rattle.lift.specs.Blocks.{goes_on}
-use Rattle.lift.specs.Effects.{HasEffect, LeadsOn, GoesOn, after}
+use Rattle.lift_blocks.specs.Ends.{goes_on}
+use Rattle.lift_blocks.specs.Effects.{HasEffect, LeadsOn, GoesOn, after}
 
 -- a block whose statements lead to a world leads on there
 leads_there : (at : ℕ) (stmts : List Stmt) (w u : World) → Runs stmts w u → block_leads (goes_on at stmts) w ≡ To 1 u

@@ -1,0 +1,4 @@
+pub mod Ends
+pub mod Effects
+pub mod Flags
+pub mod Extended
