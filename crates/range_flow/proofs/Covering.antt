@@ -92,7 +92,8 @@ one_or_two : (b : Bool) → 0 < (if b then 2 else 1)
 one_or_two true = omega arith
 one_or_two false = omega arith
 
-some_block : (x : Inst) → 0 < block_count x
+-- an instruction has a block
+pub some_block : (x : Inst) → 0 < block_count x
 some_block (i.Str op size r s) = one_or_two (repeats r)
 some_block x = omega arith
 

@@ -7,3 +7,6 @@ pub mod Planned
 pub mod Beginning
 pub mod Covering
 pub mod RangePlan
+pub mod Few
+pub mod Joined
+pub mod Given

@@ -31,7 +31,7 @@ module _ (m : List Segment) (r : Range) (places : List ℕ) (f : Flow) (covering
   all_addresses : addresses_of (is.inner ++ is.outer) ≡ places ++ addresses_of is.outer
   all_addresses = map-append (λ q. q.at) is.inner is.outer ∙ ap (λ l. l ++ addresses_of is.outer) is.at_places
 
-  has_place : (a : ℕ) → Contains places a ⊎ Contains (addresses_of is.outer) a → Contains (addresses_of (is.inner ++ is.outer)) a
+  pub has_place : (a : ℕ) → Contains places a ⊎ Contains (addresses_of is.outer) a → Contains (addresses_of (is.inner ++ is.outer)) a
   has_place a (inl h) = subst (λ l. Contains l a) (sym all_addresses) (Contains-append_left places (addresses_of is.outer) a h)
   has_place a (inr h) = subst (λ l. Contains l a) (sym all_addresses) (Contains-append_right places (addresses_of is.outer) a h)
 
