@@ -1,11 +1,10 @@
 -- The piece of an instruction does what its step does, and the piece of an address outside what the machine does there.
-use Rattle.std.proofs.Common.{◌≡◌, ℕ, zero, suc, ◌+◌, ◌%◌, ◌^◌, ◌<◌, ◌≤◌, Bool, true, false, cond, if◌then◌else◌, List, [], ◌∷◌, ◌++◌, length, Option, Some, None, refl, sym, ap, ◌∙◌, subst, arith}
+use Rattle.std.proofs.Common.{◌≡◌, ℕ, zero, suc, ◌+◌, ◌%◌, ◌^◌, ◌<◌, Bool, true, false, cond, if◌then◌else◌, List, [], ◌∷◌, ◌++◌, length, Option, Some, refl, sym, ap, ◌∙◌, subst, arith}
 use Rattle.std.specs.Prelude.{slice_get}
 use Rattle.elf_image.specs.declared.image.Segment.{Segment}
 use Rattle.elf_image.specs.declared.range.Range.{Range}
 use Rattle.elf_image.specs.Range.{is_inside}
 use Rattle.dream_words.specs.declared.machine.Regs.{Regs}
-use Rattle.dream_words.specs.declared.machine.Flags.{Flags}
 use Rattle.dream_words.specs.declared.machine.Name.TheVariants as name
 use Rattle.dream_words.specs.declared.outcome.Start.{Start}
 use Rattle.dream_words.specs.declared.outcome.Answer.{Answer}
@@ -22,7 +21,7 @@ use Rattle.x86_model.specs.WideRows.{repeats}
 use Rattle.machine.specs.Code.{Decodes}
 use Rattle.machine.specs.Steps.{judged, go_on, steps}
 use Rattle.machine.specs.Run.{Scene, scene_of, answer_breaks, strays, act, step_at}
-use Rattle.run_parts.specs.Steps.{To, End, Nowhere, having}
+use Rattle.run_parts.specs.Steps.{having}
 use Rattle.run_parts.specs.World.{World, Names, regs_in}
 use Rattle.run_parts.specs.Effects.{answered_by, calling}
 use Rattle.c_syntax.specs.Value.{word_of}

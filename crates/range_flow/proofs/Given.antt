@@ -1,5 +1,5 @@
 -- The flow of a range may be given.
-use Rattle.std.proofs.Common.{◌≡◌, ◌⊎◌, inl, inr, ℕ, ◌+◌, ◌*◌, ◌%◌, ◌^◌, ◌<◌, ◌≤◌, Bool, true, false, nat_eq, List, [], ◌∷◌, ◌++◌, length, map, Option, Some, refl, sym, ap, ◌∙◌, subst, arith, length-append}
+use Rattle.std.proofs.Common.{◌≡◌, ◌⊎◌, inl, inr, ℕ, ◌+◌, ◌*◌, ◌%◌, ◌^◌, ◌<◌, ◌≤◌, true, false, nat_eq, List, [], ◌∷◌, ◌++◌, length, Some, refl, sym, ap, ◌∙◌, subst, arith, length-append}
 use Rattle.std.specs.Prelude.{IsTrue, slice_get, All, Contains}
 use Rattle.std.specs.List.{IsDistinct}
 use Rattle.std.proofs.lemmas.Bool.{both_ways}
@@ -11,12 +11,10 @@ use Rattle.std.proofs.lemmas.Map.Made.{length-le_from_is_member, is_member-Decid
 use Rattle.elf_image.specs.declared.image.Segment.{Segment}
 use Rattle.elf_image.specs.declared.range.Range.{Range}
 use Rattle.elf_image.specs.Range.{is_inside}
-use Rattle.x86_model.specs.Successors.{successors_of}
 use Rattle.micro_ir.specs.declared.flow.Flow.{Flow}
-use Rattle.micro_ir.specs.Checked.{IsChecked}
-use Rattle.micro_ir.specs.Rule.{are_flow_blocks, nodes_in, IsGiven}
+use Rattle.micro_ir.specs.Rule.{are_flow_blocks, nodes_in}
 use Rattle.range_flow.specs.declared.piece.FlowPiece.{FlowPiece}
-use Rattle.range_flow.specs.Pieces.{IsPieceOf, IsLeaveTo, addresses_of, first_node, flow_blocks, leave_block}
+use Rattle.range_flow.specs.Pieces.{IsPieceOf, IsLeaveTo, addresses_of, first_node, flow_blocks}
 use Rattle.range_flow.specs.Flow.{AreCovering, IsFlowOf}
 use Rattle.range_flow.specs.Laws.{FlowIsGiven}
 use Rattle.range_flow.proofs.Members.{contains_cases, contains_got, contains_here, contains_later, contains_mapped, none_in}

@@ -1,5 +1,5 @@
 -- How many blocks the flow of pieces has, how many nodes they name and which, and that they keep the rule of flows.
-use Rattle.std.proofs.Common.{◌≡◌, ◌⊎◌, inl, inr, ℕ, ◌+◌, ◌-◌, ◌^◌, ◌<◌, ◌≤◌, Bool, true, false, cond, nat_eq, nat_lt, nat_le, ◌&&◌, List, [], ◌∷◌, ◌++◌, length, get_or, map, Option, Some, None, refl, sym, ap, ◌∙◌, subst, arith, length-append, ⊎_elim}
+use Rattle.std.proofs.Common.{◌≡◌, ℕ, ◌+◌, ◌-◌, ◌^◌, ◌<◌, ◌≤◌, Bool, true, false, cond, nat_eq, nat_le, ◌&&◌, List, [], ◌∷◌, ◌++◌, length, get_or, map, Option, Some, None, refl, sym, ap, ◌∙◌, subst, arith, length-append, ⊎_elim}
 use Rattle.std.specs.Prelude.{IsTrue, slice_get, All, Contains}
 use Rattle.std.proofs.lemmas.Bool.{cases_lt, lt-ltb}
 use Rattle.std.proofs.lemmas.List.{length-map}
@@ -19,7 +19,7 @@ use Rattle.micro_ir.specs.Rule.{has_flow_names, is_flow_word, have_words, is_flo
 use Rattle.micro_ir.proofs.Values.{both_true, names_layer}
 use Rattle.lift_parts.proofs.Fit.{both_hold}
 use Rattle.range_flow.specs.declared.piece.FlowPiece.{FlowPiece}
-use Rattle.range_flow.specs.Pieces.{leave_block, first_node, node_of, flow_node, moved_block, blocks_from, flow_blocks}
+use Rattle.range_flow.specs.Pieces.{leave_block, first_node, node_of, flow_node, moved_block, blocks_from}
 use Rattle.range_flow.proofs.Members.{below_true, below_false, contains_here, contains_later, mapped}
 use Rattle.range_flow.proofs.Numbering.{piece_at}
 

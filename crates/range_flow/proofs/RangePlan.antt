@@ -1,5 +1,5 @@
 -- The pieces of a range's flow are a plan.
-use Rattle.std.proofs.Common.{◌≡◌, ◌⊎◌, inl, inr, ℕ, ◌+◌, ◌%◌, ◌^◌, ◌<◌, Bool, true, false, List, [], ◌∷◌, ◌++◌, length, get_or, map, Option, Some, refl, sym, ap, ◌∙◌, subst}
+use Rattle.std.proofs.Common.{◌≡◌, ◌⊎◌, inl, inr, ℕ, Bool, true, false, List, ◌++◌, get_or, Option, refl, sym, ap, ◌∙◌, subst}
 use Rattle.std.specs.Prelude.{slice_get, All, Contains}
 use Rattle.std.proofs.lemmas.List.{map-append}
 use Rattle.std.proofs.lemmas.List.Elements.{All-contains, All-append, Contains-get_or, Contains-append_left, Contains-append_right, Contains-append_cases}
@@ -9,7 +9,7 @@ use Rattle.elf_image.specs.Range.{is_inside}
 use Rattle.dream_words.specs.declared.outcome.Start.{Start}
 use Rattle.x86_inst.specs.declared.Inst.{Inst}
 use Rattle.machine.specs.Code.{Decodes}
-use Rattle.machine.specs.Run.{Scene, scene_of}
+use Rattle.machine.specs.Run.{scene_of}
 use Rattle.micro_ir.specs.declared.flow.Flow.{Flow}
 use Rattle.range_flow.specs.declared.piece.FlowPiece.{FlowPiece}
 use Rattle.range_flow.specs.Pieces.{IsPieceOf, IsLeaveTo, addresses_of}
