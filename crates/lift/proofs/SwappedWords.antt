@@ -1,31 +1,13 @@
 -- What the word of four bytes in the other order gives.
-use Rattle.std.proofs.Common.{◌≡◌, ℕ, ℤ, pos, negsuc, ◌+◌, ◌-◌, ◌*◌, ◌/◌, ◌%◌, ◌^◌, ◌<◌, ◌≤◌, ◌-ℤ◌, Bool, true, false, nat_le, bit_and, bit_or, Some, refl, sym, ap, ◌∙◌, arith}
-use Rattle.std.specs.Prelude.{if◌then◌else◌, unsigned_abs}
-use Rattle.std.specs.Int.{int_rem_euclid}
-use Rattle.std.proofs.lemmas.Bool.Decides.{nat_tests}
-use Rattle.std.proofs.lemmas.Int.{int_rem_euclid_is, ints}
+use Rattle.std.proofs.Common.{◌≡◌, ℕ, ◌+◌, ◌*◌, ◌/◌, ◌%◌, ◌^◌, ◌<◌, bit_and, bit_or, Some, ap, ◌∙◌, arith}
 use Rattle.std.proofs.lemmas.Nat.{or_shifted}
 use Rattle.std.proofs.lemmas.Nat.Bits.{and_high}
-use Rattle.std.proofs.Math.Nat.{mod-eq_of_lt}
-use Rattle.dream_words.specs.declared.machine.Name.{Name}
-use Rattle.dream_words.specs.Words.{bit_of, low_part, shifted_signed, sign_bit, sign_extended, signed_part, word_of as word_taken}
+use Rattle.dream_words.specs.Words.{low_part}
 use Rattle.run_parts.specs.World.{Names}
-use Rattle.x86_inst.specs.declared.Size.{Size}
-use Rattle.x86_inst.specs.declared.Size.TheVariants.{B, H, W}
-use Rattle.x86_model.specs.Operands.{bits_of}
 use Rattle.x86_model.specs.Rows.{swapped}
-use Rattle.c_syntax.specs.declared.syntax.CBin.{CBin}
-use Rattle.c_syntax.specs.declared.syntax.CFn1.{CFn1}
-use Rattle.c_syntax.specs.declared.syntax.CFn1.TheVariants.{Sx1, Sx2}
-use Rattle.c_syntax.specs.declared.syntax.CFn2.{CFn2}
 use Rattle.c_syntax.specs.declared.syntax.CExpr.{CExpr}
-use Rattle.c_syntax.specs.declared.syntax.CCond.{CCond}
-use Rattle.c_syntax.specs.Value.{truth_of, word_of}
-use Rattle.c_syntax.specs.Words.{bin_of, fn1_of, fn2_of}
-use Rattle.c_words.specs.Built.{bin, fn1, fn2, name, num, pick, word_if, word_not}
+use Rattle.c_syntax.specs.Value.{word_of}
 use Rattle.c_words.proofs.Layers.{word_layer}
-use Rattle.lift_parts.proofs.Values.{low_again}
-use Rattle.lift_blocks.specs.Extended.{extended}
 use Rattle.lift.specs.Blocks.{swapped_word}
 
 -- ---- the order of bytes

@@ -18,17 +18,14 @@ use Rattle.x86_model.specs.Operands.{bits_of, width_of}
 use Rattle.x86_model.specs.Successors.{is_memory, writes as writes_operand}
 use Rattle.c_syntax.specs.declared.syntax.CBin.TheVariants as op
 use Rattle.c_syntax.specs.declared.syntax.CCmp.TheVariants as cmp
-use Rattle.c_syntax.specs.declared.syntax.CFn1.TheVariants.{Sx1, Sx2}
 use Rattle.c_syntax.specs.declared.syntax.CFn2.TheVariants.{Sar}
 use Rattle.c_syntax.specs.declared.syntax.CExpr.{CExpr}
-use Rattle.c_syntax.specs.declared.syntax.CCond.{CCond}
-use Rattle.c_words.specs.Built.{num, bin, fn1, fn2, pick, word_not, word_if, cmp as compare}
+use Rattle.c_words.specs.Built.{num, bin, fn2, pick, word_not, word_if, cmp as compare}
 use Rattle.micro_ir.specs.declared.flow.Stmt.{Stmt}
 use Rattle.micro_ir.specs.declared.flow.Stmt.TheVariants as stmt
 use Rattle.micro_ir.specs.declared.flow.End.TheVariants as end
 use Rattle.micro_ir.specs.declared.flow.Block.{Block}
 use Rattle.lift_parts.specs.Parts.{reg, temp, raw_word, value_word, address_word, reads, pair_reads, writes, pushes}
-use Rattle.lift_alu.specs.declared.alu.AluLift.{AluLift}
 use Rattle.lift_alu.specs.Words.{alu_words, cond_words, flag_clear}
 use Rattle.lift_blocks.specs.Ends.{goes_on, branches, returns}
 use Rattle.lift_blocks.specs.Flags.{sets_but_carry, sets_flags, computes}

@@ -1,5 +1,5 @@
 -- Statements that lead on, and keep the rule of flows, are the one block of the instruction.
-use Rattle.std.proofs.Common.{◌≡◌, ℕ, ◌+◌, ◌<◌, zero, suc, Bool, true, false, List, [], ◌∷◌, length, refl, sym, ap, ◌∙◌, subst, arith}
+use Rattle.std.proofs.Common.{◌≡◌, ℕ, ◌+◌, ◌<◌, zero, suc, Bool, true, false, List, [], ◌∷◌, length, refl, sym, subst, arith}
 use Rattle.std.specs.Prelude.{slice_get, IsTrue, ◌&&◌}
 use Rattle.dream_words.specs.declared.machine.Flags.{Flags}
 use Rattle.run_parts.specs.World.{World}
@@ -43,7 +43,7 @@ fit_blocks x at next b e f c s g l h k effect =
       effect = subst (λ k. (w : World) (f : Flags) → IsWorld w → FlagsStand f w.names
           → Matches k (successors_of x at next) (instruction_does x at next (state_in w f)) (through k (b ∷ []) (enter (slice_get (b ∷ []) 0) w))) e effect.effect;
       steady = subst (λ k. (n : ℕ) (w : World) → n < k → IsWorld w → Stays (k + length (successors_of x at next)) (enter (slice_get (b ∷ []) n) w)) e
-      (first_steady (1 + length (successors_of x at next)) b (λ w i. fit_stays (1 + length (successors_of x at next)) (once (stores x)) b w f s g l i));
+          (first_steady (1 + length (successors_of x at next)) b (λ w i. fit_stays (1 + length (successors_of x at next)) (once (stores x)) b w f s g l i));
       rule = and_true (is_flow_block b) (both_hold (are_flow_stmts b.stmts) (is_flow_end b.end) f.flow g);
       stores = omega arith;
       calls = omega arith;

@@ -5,3 +5,9 @@ pub mod Frozen
 pub mod Members
 pub mod Numbering
 pub mod Planned
+pub mod Beginning
+pub mod Covering
+pub mod RangePlan
+pub mod Few
+pub mod Joined
+pub mod Given

@@ -1,12 +1,12 @@
 -- The flow's block at each node of a piece.
-use Rattle.std.proofs.Common.{◌≡◌, ◌⊎◌, inl, inr, ℕ, zero, suc, ◌+◌, ◌-◌, ◌<◌, ◌≤◌, Bool, true, false, cond, nat_eq, nat_lt, List, [], ◌∷◌, ◌++◌, length, map, Option, Some, None, refl, sym, ap, ◌∙◌, subst, arith, rules}
+use Rattle.std.proofs.Common.{◌≡◌, ◌⊎◌, inl, inr, ℕ, ◌+◌, ◌-◌, ◌<◌, ◌≤◌, Bool, true, false, cond, nat_eq, List, [], ◌∷◌, ◌++◌, length, map, Option, Some, None, refl, sym, ap, ◌∙◌, subst, arith}
 use Rattle.std.specs.Prelude.{slice_get, Contains}
 use Rattle.std.specs.Option.{option_map}
 use Rattle.std.proofs.lemmas.Option.{slice_get-map}
 use Rattle.std.proofs.lemmas.List.{length-map}
 use Rattle.run_parts.specs.World.{World}
 use Rattle.micro_ir.specs.declared.flow.Block.{Block}
-use Rattle.micro_ir.specs.Run.{Arrive, enter, block_leads}
+use Rattle.micro_ir.specs.Run.{enter}
 use Rattle.micro_ir.specs.Laws.{relocate}
 use Rattle.micro_ir.proofs.Moves.{blocks_move}
 use Rattle.range_flow.specs.declared.piece.FlowPiece.{FlowPiece}

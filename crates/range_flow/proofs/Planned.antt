@@ -1,13 +1,11 @@
 -- The flow of a plan keeps up with the machine, and is never stuck.
-use Rattle.std.proofs.Common.{◌≡◌, ℕ, zero, suc, ◌+◌, ◌-◌, ◌<◌, ◌≤◌, Bool, true, false, cond, nat_eq, nat_lt, List, [], ◌∷◌, length, Option, Some, refl, sym, ap, ◌∙◌, subst, arith, rules, ⊎_elim}
-use Rattle.std.specs.Prelude.{slice_get, Contains}
+use Rattle.std.proofs.Common.{◌≡◌, ℕ, zero, suc, ◌+◌, ◌-◌, ◌<◌, ◌≤◌, true, cond, nat_eq, List, [], ◌∷◌, length, Some, refl, sym, ap, ◌∙◌, subst, arith, ⊎_elim}
+use Rattle.std.specs.Prelude.{slice_get}
 use Rattle.std.proofs.lemmas.Bool.{cases_lt}
 use Rattle.std.proofs.lemmas.List.Elements.{All-contains}
 use Rattle.elf_image.specs.declared.image.Segment.{Segment}
-use Rattle.elf_image.specs.declared.range.Range.{Range}
 use Rattle.dream_words.specs.declared.outcome.Start.{Start}
 use Rattle.dream_words.specs.declared.outcome.Answer.{Answer}
-use Rattle.dream_words.specs.declared.outcome.Outcome.{Outcome}
 use Rattle.dream_words.specs.declared.outcome.Outcome.TheVariants as outcome
 use Rattle.dream_words.specs.declared.machine.Bit.{Bit}
 use Rattle.dream_words.specs.declared.machine.Bit.TheVariants.{Zero, One, Undefined}
@@ -15,19 +13,16 @@ use Rattle.dream_words.specs.Registers.{word_of_bit}
 use Rattle.dream_words.specs.Same.{IsEnded}
 use Rattle.dream_words.specs.Agreement.{Agreeing}
 use Rattle.dream_words.specs.Ranges.{AreAnswers}
-use Rattle.x86_inst.specs.declared.Inst.{Inst}
-use Rattle.x86_model.specs.Machine.{Onward, At, Finished, Strays, Blank, State, Ending, ending_outcome}
+use Rattle.x86_model.specs.Machine.{Onward, At, Finished, Strays, Blank, State, Ending}
 use Rattle.machine.specs.Steps.{steps}
 use Rattle.machine.specs.Run.{Scene, scene_of, step_at, start_state, machine_run, IsStart, outcome_of as machine_outcome}
 use Rattle.run_parts.specs.Steps.{To, End, Nowhere}
 use Rattle.run_parts.specs.World.{World, start_world}
-use Rattle.micro_ir.specs.declared.flow.Block.{Block}
-use Rattle.micro_ir.specs.declared.flow.Flow.{Flow}
-use Rattle.micro_ir.specs.Run.{Arrive, enter, onward, walk, flow_run, outcome_of}
+use Rattle.micro_ir.specs.Run.{Arrive, enter, onward, walk, outcome_of}
 use Rattle.micro_ir.specs.Laws.{relocate}
 use Rattle.micro_ir.specs.World.{IsWorld}
 use Rattle.micro_ir.proofs.Worlds.{start_is}
-use Rattle.lift_parts.specs.Stands.{StandsFor, Stands}
+use Rattle.lift_parts.specs.Stands.{StandsFor}
 use Rattle.lift_parts.specs.Lifted.{through, Matches, Stays}
 use Rattle.range_flow.specs.declared.piece.FlowPiece.{FlowPiece}
 use Rattle.range_flow.specs.Pieces.{addresses_of, first_node, flow_node, flow_blocks}
@@ -97,14 +92,14 @@ module _ (sc : Scene) (ps : List FlowPiece) (plan : IsPlan sc ps) where
       let first = first_entered a p w e ∙ ap (relocate q) g in
       ⊎_elim
       (λ lt.
-          let path : enter (slice_get (flow_blocks ps) (first_node ps a)) w ≡ To (first_node ps a + n) u = first ∙ ap (λ k. To k u) (own_node ps (first_node ps a) n p lt) in
-          let second = entered ps a n p u e lt in
-          let met = subst (λ b. Matches (length p.blocks) p.successors r (cond b (enter (slice_get p.blocks n) u) (To n u))) (below_true n (length p.blocks) lt) h in
-          comes_by a 2 w r (relocate q (enter (slice_get p.blocks n) u)) (omega arith) (two_blocks (first_node ps a) w (first_node ps a + n) u path (relocate q (enter (slice_get p.blocks n) u)) second)
-          (meets_of a p e r (enter (slice_get p.blocks n) u) f met ((covered_at a p e).steady n u lt s.1)))
+      let path : enter (slice_get (flow_blocks ps) (first_node ps a)) w ≡ To (first_node ps a + n) u = first ∙ ap (λ k. To k u) (own_node ps (first_node ps a) n p lt) in
+      let second = entered ps a n p u e lt in
+      let met = subst (λ b. Matches (length p.blocks) p.successors r (cond b (enter (slice_get p.blocks n) u) (To n u))) (below_true n (length p.blocks) lt) h in
+      comes_by a 2 w r (relocate q (enter (slice_get p.blocks n) u)) (omega arith) (two_blocks (first_node ps a) w (first_node ps a + n) u path (relocate q (enter (slice_get p.blocks n) u)) second)
+      (meets_of a p e r (enter (slice_get p.blocks n) u) f met ((covered_at a p e).steady n u lt s.1)))
       (λ le.
-          let met = subst (λ b. Matches (length p.blocks) p.successors r (cond b (enter (slice_get p.blocks n) u) (To n u))) (below_false n (length p.blocks) le) h in
-          comes_by a 1 w r (To (q n) u) (omega arith) (one_block (first_node ps a) w (To (q n) u) first) (meets_of a p e r (To n u) f met s))
+      let met = subst (λ b. Matches (length p.blocks) p.successors r (cond b (enter (slice_get p.blocks n) u) (To n u))) (below_false n (length p.blocks) le) h in
+      comes_by a 1 w r (To (q n) u) (omega arith) (one_block (first_node ps a) w (To (q n) u) first) (meets_of a p e r (To n u) f met s))
       (cases_lt n (length p.blocks))
   step_comes a p e r w (End o) g f h s =
       let first = first_entered a p w e ∙ ap (relocate (flow_node ps (first_node ps a) p)) g in
@@ -118,7 +113,7 @@ module _ (sc : Scene) (ps : List FlowPiece) (plan : IsPlan sc ps) where
       let c = covered_at a p e in
       let effect = subst (λ b. Matches (length p.blocks) p.successors (steps State Ending (step_at sc) (c.moves m) b m) (through (length p.blocks) p.blocks (enter (slice_get p.blocks 0) w))) same (c.effect m w st) in
       let k = step_comes a p e (steps State Ending (step_at sc) (c.moves m) a m) w (enter (slice_get p.blocks 0) w) refl
-          (λ b u g. steps_kept sc (c.moves m) a b m u st.frozen_bytes g) effect (c.steady 0 w c.begins st.world) in
+      (λ b u g. steps_kept sc (c.moves m) a b m u st.frozen_bytes g) effect (c.steady 0 w c.begins st.world) in
       record {
         moves = c.moves m;
         count = k.0;
@@ -156,9 +151,9 @@ module _ (sc : Scene) (ps : List FlowPiece) (plan : IsPlan sc ps) where
       ⊎_elim
       (λ own. record { address = a; piece = p; own = n; there = e; small = own; node = own_node ps (first_node ps a) n p own; world = iw })
       (λ big.
-          let got = get_below p.successors (n - length p.blocks) (omega (arith, lt, big)) in
-          let eq : n ≡ length p.blocks + (n - length p.blocks) = omega (arith, big) in
-          stood_first got.0 w (next_known a p (n - length p.blocks) got.0 e got.1) iw (flow_node ps (first_node ps a) p n) (next_node ps (first_node ps a) p n (n - length p.blocks) got.0 eq got.1))
+      let got = get_below p.successors (n - length p.blocks) (omega (arith, lt, big)) in
+      let eq : n ≡ length p.blocks + (n - length p.blocks) = omega (arith, big) in
+      stood_first got.0 w (next_known a p (n - length p.blocks) got.0 e got.1) iw (flow_node ps (first_node ps a) p n) (next_node ps (first_node ps a) p n (n - length p.blocks) got.0 eq got.1))
       (cases_lt n (length p.blocks))
 
   safe_from : (a : ℕ) (p : FlowPiece) → piece_at ps a ≡ Some p → (x : Arrive) → Stays (length p.blocks + length p.successors) x → Safe (relocate (flow_node ps (first_node ps a) p) x)

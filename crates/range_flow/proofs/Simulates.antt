@@ -1,5 +1,5 @@
 -- A flow that keeps up with a machine agrees with it.
-use Rattle.std.proofs.Common.{◌≡◌, ◌⊎◌, inl, inr, ℕ, zero, suc, ◌+◌, ◌-◌, ◌<◌, ◌≤◌, List, refl, sym, ap, ◌∙◌, subst, arith, zero-add, ⊎_elim}
+use Rattle.std.proofs.Common.{◌≡◌, ◌⊎◌, inl, inr, ℕ, zero, suc, ◌+◌, ◌-◌, ◌<◌, ◌≤◌, List, refl, sym, ap, ◌∙◌, subst, arith, ⊎_elim}
 use Rattle.std.proofs.lemmas.Bool.{cases_lt}
 use Rattle.dream_words.specs.declared.outcome.Call.{Call}
 use Rattle.dream_words.specs.declared.outcome.Outcome.{Outcome}
@@ -153,13 +153,13 @@ module _ (step : ℕ → State → Onward State Ending) (blocks : List Block) (K
           let t = keeps a m w known st in
           ⊎_elim
           (λ before.
-              let mid = t.between n before in
-              let front : AreFront mid.1.calls w.calls = subst (λ cs. AreFront cs w.calls) (sym (same_calls m w st) ∙ sym mid.3) (AreFront_refl w.calls) in
-              seen_by n a m w 0 (At mid.0 mid.1) (To (node_at a) w) mid.2 refl front)
+          let mid = t.between n before in
+          let front : AreFront mid.1.calls w.calls = subst (λ cs. AreFront cs w.calls) (sym (same_calls m w st) ∙ sym mid.3) (AreFront_refl w.calls) in
+          seen_by n a m w 0 (At mid.0 mid.1) (To (node_at a) w) mid.2 refl front)
           (λ le.
-              let eq : n ≡ t.moves + (n - t.moves) = omega (arith, le) in
-              let less : n - t.moves < g = omega (arith, le, lt, t.some_move) in
-              seen_after n (n - t.moves) (λ a m w known st. seen g (n - t.moves) a m w less known st) a m w t.moves t.count eq (steps State Ending step t.moves a m) (walk blocks t.count (node_at a) w) refl refl t.meets)
+          let eq : n ≡ t.moves + (n - t.moves) = omega (arith, le) in
+          let less : n - t.moves < g = omega (arith, le, lt, t.some_move) in
+          seen_after n (n - t.moves) (λ a m w known st. seen g (n - t.moves) a m w less known st) a m w t.moves t.count eq (steps State Ending step t.moves a m) (walk blocks t.count (node_at a) w) refl refl t.meets)
           (cases_lt n t.moves)
 
       -- ---- ends
