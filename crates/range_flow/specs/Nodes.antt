@@ -27,6 +27,11 @@ abbrev pub total_of : List Lifted → ℕ
 total_of [] = 0
 total_of (l ∷ ls) = length l.blocks.items + total_of ls
 
+-- how many successors some have
+abbrev pub successors_in : List Lifted → ℕ
+successors_in [] = 0
+successors_in (l ∷ ls) = length l.successors.items + successors_in ls
+
 -- the address is outside, and among the successors
 abbrev pub leads_outside : Range → List Lifted → ℕ → Bool
 leads_outside r [] a = false

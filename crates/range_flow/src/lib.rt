@@ -3,12 +3,13 @@
 //! Promised is, as a law on the definitions, that the flow agrees with the machine.
 #![tactic(auto)]
 
+mod assembly;
 mod first_nodes;
-mod joined;
 mod laws;
 mod lifted;
 mod nodes;
 mod outside;
+mod places;
 mod piece;
 mod successors;
 

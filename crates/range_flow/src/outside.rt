@@ -4,7 +4,7 @@ ghost use Rattle.std.specs.Prelude.{◌≡◌, ◌+◌, ◌*◌, ℕ, ◌≤◌,
 ghost use Rattle.std.specs.List.{list_any};
 ghost use Rattle.indexmap.specs.IndexSet.{contains, IsUnique};
 ghost use Rattle.elf_image.specs.Range.{is_inside};
-ghost use Rattle.range_flow.specs.Nodes.{leads_outside};
+ghost use Rattle.range_flow.specs.Nodes.{leads_outside, successors_in};
 
 use crate::lifted::Lifted;
 use elf_image::Range;
@@ -28,6 +28,7 @@ fn note(outside: &mut IndexSet<u32>, r: Range, addresses: &[u32]) -> Result<(), 
 pub fn outside_of(alloc: Global, r: Range, all: &[Lifted]) -> Result<IndexSet<u32>, AllocError>
     ensures members { IfOk result (λ s. (a : ℕ) → contains nat_eq s a ≡ leads_outside r all.now a) }
     ensures unique { IfOk result (IsUnique nat_eq) }
+    ensures few { IfOk result (λ s. length s.keys ≤ successors_in all.now) }
 {
     let mut outside = IndexSet::new(alloc);
     for one in all {

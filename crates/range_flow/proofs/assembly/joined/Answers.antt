@@ -4,7 +4,7 @@ use Rattle.std.proofs.lemmas.List.{length-map}
 use Rattle.std.specs.Vec.Iter.{into_iter_items}
 use Rattle.range_flow.specs.Nodes.{first_by, joined_from, number_from, total_of}
 use Rattle.range_flow.proofs.Joining.{one_more, all_joined, longer}
-use Rattle.range_flow.proofs.joined.joined.Goals as goal
+use Rattle.range_flow.proofs.assembly.joined.Goals as goal
 
 pub loop-one-preserved : goal.loop-one-preserved
 loop-one-preserved c =

@@ -1,7 +1,7 @@
 use Rattle.std.proofs.Common.{◌≡◌, ◌+◌, ◌++◌, length}
 use Rattle.std.specs.Vec.Iter.{into_iter_items}
 use Rattle.range_flow.specs.Nodes.{first_by, joined_from, total_of}
-use Rattle.range_flow.proofs.joined.joined.Given as goal
+use Rattle.range_flow.proofs.assembly.joined.Given as goal
 
 -- what is there, and what is left, is the whole
 abbrev pub invariant-loop-one : goal.invariant-loop-one
