@@ -1,4 +1,5 @@
 mod Joining
+mod Placing
 pub mod Ends
 pub mod Simulates
 pub mod Frozen

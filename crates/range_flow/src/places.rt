@@ -7,6 +7,21 @@ ghost use Rattle.range_flow.specs.Lifting.{IsLiftedIn, CanBeLifted};
 use crate::lifted::{Lifted, leave_to, lifted_from};
 use std::alloc::{AllocError, Global};
 
+// What is made for one place.
+fn lifted_place(
+    alloc: Global,
+    code: &[u8],
+    entry: u32,
+    place: u32,
+) -> Result<Lifted, AllocError>
+    requires { CanBeLifted code.now entry place }
+    ensures lifted { IfOk result (IsLiftedIn code.now entry) }
+    ensures here { IfOk result (λ l. l.at ≡ place) }
+{
+    let from = (place - entry) as usize;
+    lifted_from(alloc, &code[from..], place)
+}
+
 /// What is made for places of code that begins at an entry, in their order.
 pub fn lifted_places(
     alloc: Global,
@@ -20,8 +35,7 @@ pub fn lifted_places(
 {
     let mut all = Vec::new(alloc);
     for &place in places {
-        let from = (place - entry) as usize;
-        all.push(lifted_from(alloc, &code[from..], place)?)?;
+        all.push(lifted_place(alloc, code, entry, place)?)?;
     }
     Ok(all)
 }
