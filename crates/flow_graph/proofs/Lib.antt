@@ -1,3 +1,6 @@
 mod Frozen
 mod Beginning
+pub mod Firsts
 pub mod OnePlaces
+pub mod Walked
+pub mod Reading

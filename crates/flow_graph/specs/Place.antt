@@ -111,7 +111,7 @@ abbrev pub HasNoText : List Segment → Range → FlowFault → Type 0
 HasNoText m r (fault.Outside p) = NamedPlace m r p
 HasNoText m r fault.Memory = Unit {0}
 
--- the place of the range as a whole is the one that is refused
-abbrev pub NamesRange : Option Place → FlowFault → Type 0
-NamesRange named (fault.Outside p) = named ≡ Some p
-NamesRange named fault.Memory = Unit {0}
+-- the place is the one that is refused
+abbrev pub Names : Option Place → FlowFault → Type 0
+Names named (fault.Outside p) = named ≡ Some p
+Names named fault.Memory = Unit {0}

@@ -1,7 +1,11 @@
-//! The place where a function is outside the profile.
+//! What is found of a function, or the place where it is outside the profile.
 
 ghost use Rattle.std.specs.Prelude.{◌≡◌};
 ghost use Rattle.flow_graph.specs.Place.{cause_number};
+ghost use Rattle.flow_graph.specs.declared.place.FlowFault.TheVariants.{Memory};
+
+use graph_order::Graph;
+use std::alloc::AllocError;
 
 /// Why a function is outside the profile.
 #[derive(Clone, Copy, Debug, PartialEq, Eq)]
@@ -46,6 +50,14 @@ pub struct Place {
     pub cause: Cause,
 }
 
+/// What of a range is reached: the addresses in the order of discovery, and the graph of what follows what, whose node
+/// k is the k-th of them.
+#[derive(Drop)]
+pub struct Found {
+    pub graph: Graph,
+    pub places: Vec<u32>,
+}
+
 /// Why a function isn't discovered.
 #[derive(Clone, Copy, Debug, PartialEq, Eq)]
 pub enum FlowFault {
@@ -53,4 +65,12 @@ pub enum FlowFault {
     Outside(Place),
     /// Memory was refused.
     Memory,
+}
+
+impl From<AllocError> for FlowFault {
+    ghost from_gives = { λ _ fault. fault ≡ Memory };
+
+    fn from(_error: AllocError) -> FlowFault {
+        FlowFault::Memory
+    }
 }

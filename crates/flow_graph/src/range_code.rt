@@ -2,7 +2,7 @@
 
 ghost use Rattle.std.specs.Prelude.{◌≡◌, ◌+◌, ◌^◌, ◌≤◌, ◌<◌, length, IfOk, OnOk, IfErr, None, Err};
 ghost use Rattle.elf_image.specs.Range.{bytes_to_end};
-ghost use Rattle.flow_graph.specs.Place.{range_place, place_of, NamesRange};
+ghost use Rattle.flow_graph.specs.Place.{range_place, place_of, Names};
 
 use crate::place::{Cause, FlowFault, Place};
 use elf_image::{Image, Range};
@@ -22,7 +22,7 @@ pub fn range_code(alloc: Global, m: &Image, r: &Range) -> Result<Vec<u8>, FlowFa
     ensures some { OnOk result (0 < r.now.size) }
     ensures few { OnOk result (r.now.size ≤ 65536) }
     ensures fits { OnOk result (r.now.entry + r.now.size ≤ 2 ^ 32) }
-    ensures err { IfErr result (NamesRange (range_place m.now r.now)) }
+    ensures err { IfErr result (Names (range_place m.now r.now)) }
 {
     if r.size == 0 {
         return refused(r.entry, Cause::RangeEmpty);
