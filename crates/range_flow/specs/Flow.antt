@@ -1,5 +1,6 @@
 -- When a flow is that of a range.
 use Rattle.std.specs.Prelude.{◌≡◌, ℕ, ◌+◌, ◌%◌, ◌^◌, true, false, ◌==◌, List, ◌++◌, slice_get, Some, All, Contains}
+use Rattle.std.specs.Prelude.{◌≡◌, ℕ, ◌+◌, ◌%◌, ◌^◌, true, false, nat_eq, List, ◌++◌, slice_get, Some, All, Contains}
 use Rattle.std.specs.List.{IsDistinct}
 use Rattle.elf_image.specs.declared.image.Segment.{Segment}
 use Rattle.elf_image.specs.declared.range.Range.{Range}
@@ -34,5 +35,6 @@ pub record IsFlowOf (m : List Segment) (r : Range) (places : List ℕ) (f : Flow
   pub outside : (a : ℕ) → Contains (addresses_of outer) a → IsOutsideOf r inner a
   pub complete : (a : ℕ) → IsOutsideOf r inner a → Contains (addresses_of outer) a
   pub once : IsDistinct (λ a b. a == b) (addresses_of outer)
+  pub once : IsDistinct nat_eq (addresses_of outer)
   pub blocks : f.blocks ≡ flow_blocks (inner ++ outer)
   pub entry : f.entry ≡ 0

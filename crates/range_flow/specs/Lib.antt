@@ -2,3 +2,5 @@ pub mod Pieces
 pub mod Flow
 pub mod Plan
 pub mod Laws
+pub mod Nodes
+pub mod Lifting

@@ -5,6 +5,13 @@
 
 mod laws;
 mod piece;
+mod assembly;
+mod first_nodes;
+mod lifted;
+mod nodes;
+mod outside;
+mod places;
+mod successors;
 
 pub use laws::{flow_is_given, flows_agree, planned_flows_agree};
 pub use piece::FlowPiece;
