@@ -1,2 +1,5 @@
 mod Agreed
 pub mod Core
+pub mod Entries
+pub mod Tracks
+pub mod Ended
