@@ -3,3 +3,4 @@ pub mod Core
 pub mod Entries
 pub mod Tracks
 pub mod Ended
+pub mod Following
