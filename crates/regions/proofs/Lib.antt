@@ -4,3 +4,5 @@ pub mod Entries
 pub mod Tracks
 pub mod Ended
 pub mod Following
+pub mod Blocks
+mod PlainRuns
