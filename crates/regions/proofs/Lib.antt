@@ -6,3 +6,4 @@ pub mod Ended
 pub mod Following
 pub mod Blocks
 mod PlainRuns
+mod LineRuns
