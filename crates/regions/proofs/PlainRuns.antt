@@ -25,7 +25,7 @@ use Rattle.guarded.specs.declared.tree.TreeCase.{TreeCase}
 use Rattle.guarded.specs.Run.{end_does, tree_does, case_does}
 use Rattle.guarded.proofs.Layers.{does_layer, case_does_layer}
 use Rattle.regions.specs.Follows.{Follows}
-use Rattle.regions.specs.Plain.{selector, selects, goes_to, nothing, value_case, value_cases, next_trees, tree_end, block_tree, block_case, block_cases, selector_loop, plain_tree}
+use Rattle.regions.specs.Plain.{selector, selects, goes_to, nothing, value_case, value_cases, value_switch, next_trees, tree_end, block_tree, block_case, block_cases, selector_loop, plain_tree}
 use Rattle.regions.proofs.Core.{core, selector_apart, selector_set, word_bare, cond_bare}
 use Rattle.regions.proofs.Tracks.{Place, Clear, Owed, Sound, Walk, Kept, Tracks, seq_tracks, skip_tracks, catch_kept, loop_tracks, past_kept, over_kept, not_nowhere}
 use Rattle.regions.proofs.Following.{None_such, Starts, follows}
@@ -166,9 +166,6 @@ module _ (blocks : List Block) (rule : IsTrue (are_flow_blocks blocks)) where
   branch_kept d n s m c a b t (Some false) h o g e =
       let p = pick_in c (built.num a) (built.num b) t ∙ ap (λ v. picked v (word_in (built.num a) t) (word_in (built.num b) t)) g ∙ num_in b t in
       subst (λ r. KeptHere d n s m (on r (after skip))) (sym (selects_does (built.pick c (built.num a) (built.num b)) b m t p)) (set_kept d n s m b t t h refl e)
-
-  abbrev value_switch : List Case → Tree
-  value_switch cases = roll-Tree (Tree-F.Switch selector (value_cases [] cases) nothing)
 
   -- the switch over the values
   switch_is : (cases : List Case) (m : ℕ) (u : World) → tree_does (value_switch cases) m u ≡ on (group_of (map case_does (value_cases [] cases)) (tree_does nothing) (u.names selector) m u) caught
