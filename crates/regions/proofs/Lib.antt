@@ -4,6 +4,9 @@ pub mod Entries
 pub mod Tracks
 pub mod Ended
 pub mod Following
+pub mod Standing
 pub mod Blocks
 mod PlainRuns
 mod LineRuns
+pub mod FlowWords
+mod PlainFormed

@@ -1,7 +1,6 @@
 -- The plain tree follows its flow.
 use Rattle.std.proofs.Common.{◌≡◌, ◌⊎◌, inl, inr, ℕ, zero, suc, ◌+◌, ◌≤◌, nat_eq, Bool, true, false, cond, if◌then◌else◌, List, [], ◌∷◌, ◌++◌, Option, Some, None, refl, sym, ap, ◌∙◌, subst, map, arith}
 use Rattle.std.specs.Prelude.{slice_get, IsTrue}
-use Rattle.std.proofs.lemmas.Bool.Decides.{nat_tests}
 use Rattle.dream_words.specs.declared.outcome.Outcome.{Outcome}
 use Rattle.run_parts.specs.Parts.{Run, Ends, Goes, Past, Over, on, after, seq, skip, in_turn, caught, catch_break, has, group_of, given, switch, repeat, always}
 use Rattle.run_parts.specs.Steps.{Next, Halt, Jam, To, End, Nowhere, done}
@@ -26,18 +25,13 @@ use Rattle.guarded.specs.Run.{end_does, tree_does, case_does}
 use Rattle.guarded.proofs.Layers.{does_layer, case_does_layer}
 use Rattle.regions.specs.Follows.{Follows}
 use Rattle.regions.specs.Plain.{selector, selects, goes_to, nothing, value_case, value_cases, value_switch, next_trees, tree_end, block_tree, block_case, block_cases, selector_loop, plain_tree}
+use Rattle.regions.proofs.Standing.{same_number, other_number, not_seen, has_more}
 use Rattle.regions.proofs.Core.{core, selector_apart, selector_set, word_bare, cond_bare}
 use Rattle.regions.proofs.Tracks.{Place, Clear, Owed, Sound, Walk, Kept, Tracks, seq_tracks, skip_tracks, catch_kept, loop_tracks, past_kept, over_kept, not_nowhere}
 use Rattle.regions.proofs.Following.{None_such, Starts, follows}
 use Rattle.regions.proofs.Blocks.{block_rule, num_in, pick_in, selects_does, goes_does, At_end, block_kept, return_kept, leave_kept}
 
 -- ---- the case of a number
-
-same_number : (n : ℕ) → nat_eq n n ≡ true
-same_number n = grind (arith, nat_tests)
-
-other_number : (x v : ℕ) → (x ≡ v → ⊥) → nat_eq x v ≡ false
-other_number x v h = grind (arith, nat_tests)
 
 one_value : (b : Bool) (r q : Run World Outcome) → (if (if b then true else false) then r else q) ≡ (if b then r else q)
 one_value true r q = refl
@@ -74,18 +68,6 @@ case_found (c ∷ bs) k (suc j) x b last m s e h =
 
 value_is : (c : Case) → case_does (value_case c) ≡ (c.value ∷ [], tree_does (goes_to c.to))
 value_is c = case_does_layer (record { values = c.value ∷ []; body = goes_to c.to })
-
--- a number that stands in no list is none of its numbers
-not_seen : (seen : List ℕ) (x v : ℕ) → has seen x ≡ false → has seen v ≡ true → nat_eq x v ≡ false
-not_seen seen x v h g = other_number x v (λ (e : x ≡ v). let p : has seen x ≡ true = ap (has seen) e ∙ g in let z : ⊥ = cc in z)
-
-has_more : (seen : List ℕ) (x v : ℕ) → has seen x ≡ false → nat_eq x v ≡ false → has (seen ++ v ∷ []) x ≡ false
-has_more [] x v h e = ap (λ (b : Bool). if b then true else false) e
-has_more (y ∷ ys) x v h e = step (nat_eq x y) (has ys x) (has (ys ++ v ∷ []) x) h (λ g. has_more ys x v g e)
-  where
-    step : (b p q : Bool) → (if b then true else p) ≡ false → (p ≡ false → q ≡ false) → (if b then true else q) ≡ false
-    step true p q i k = i
-    step false p q i k = k i
 
 -- what the cases of a Switch end do for a value, beside what the flow does
 record Found (cases : List Case) (x : ℕ) (w : World) (r : Run World Outcome) (m : ℕ) (u : World) : Type 0 where

@@ -54,7 +54,7 @@ fn value_case(alloc: Global, c: &Case) -> Result<TreeCase, AllocError>
 fn stands(values: &[u32], x: u32) -> bool
     ensures { result ≡ has values.now x }
 {
-    values.iter().any(|v| x == *v)
+    values.contains(&x)
 }
 
 /// The cases of a Switch end. Of several with one value just the first stands.
