@@ -47,10 +47,10 @@ blocks_fine f g = each_from IsFine f.blocks (λ n b e. record {
 })
 
 first_in : (x : ℕ) (xs : List ℕ) → Contains (x ∷ xs) x
-first_in x xs = (0, (omega arith, refl))
+first_in x xs = (0, omega arith, refl)
 
 later_in : (x y : ℕ) (xs : List ℕ) → Contains xs x → Contains (y ∷ xs) x
-later_in x y xs c = (suc c.0, (let l = c.1 in omega (arith, l), c.2))
+later_in x y xs c = (suc c.0, (let l = c.1 in omega (arith, l)), c.2)
 
 -- ---- blocks
 
@@ -140,14 +140,127 @@ more_values : (c : Case) (cs : List TreeCase) → values_in (value_case c ∷ cs
 more_values c cs = ap (λ (g : GroupAllowed). g.0 ++ values_in cs) (value_is c)
 
 -- a value that was seen has no case
+none_step : (seen : List ℕ) (c : Case) (cases : List Case) (x : ℕ) (b : Bool) → has seen c.value ≡ b → has seen x ≡ true
+    → ((more : List ℕ) → has more x ≡ true → has (values_in (value_cases more cases)) x ≡ false)
+    → has (values_in (if b then value_cases seen cases else value_case c ∷ value_cases (seen ++ c.value ∷ []) cases)) x ≡ false
+none_step seen c cases x true e h k = k seen h
+none_step seen c cases x false e h k =
+    let other : nat_eq x c.value ≡ false = other_number x c.value (λ (i : x ≡ c.value). let p : has seen c.value ≡ true = ap (has seen) (sym i) ∙ h in let z : ⊥ = cc in z) in
+    ap (λ vs. has vs x) (more_values c (value_cases (seen ++ c.value ∷ []) cases))
+    ∙ ap (λ b. if b then true else has (values_in (value_cases (seen ++ c.value ∷ []) cases)) x) other
+    ∙ k (seen ++ c.value ∷ []) (has_still seen x c.value h)
+
 none_seen : (seen : List ℕ) (cases : List Case) (x : ℕ) → has seen x ≡ true → has (values_in (value_cases seen cases)) x ≡ false
 none_seen seen [] x h = refl
-none_seen seen (c ∷ cases) x h = step (has seen c.value) refl
-  where
-    step : (b : Bool) → has seen c.value ≡ b → has (values_in (if b then value_cases seen cases else value_case c ∷ value_cases (seen ++ c.value ∷ []) cases)) x ≡ false
-    step true e = none_seen seen cases x h
-    step false e =
-        let other : nat_eq x c.value ≡ false = other_number x c.value (λ (i : x ≡ c.value). let p : has seen c.value ≡ true = ap (has seen) (sym i) ∙ h in let z : ⊥ = cc in z) in
-        ap (λ vs. has vs x) (more_values c (value_cases (seen ++ c.value ∷ []) cases))
-        ∙ ap (λ b. if b then true else has (values_in (value_cases (seen ++ c.value ∷ []) cases)) x) other
-        ∙ none_seen (seen ++ c.value ∷ []) cases x (has_still seen x c.value h)
+none_seen seen (c ∷ cases) x h = none_step seen c cases x (has seen c.value) refl h (λ more g. none_seen more cases x g)
+
+-- no value stands twice
+distinct_more : (v : ℕ) (vs : List ℕ) → has vs v ≡ false → IsTrue (are_distinct vs) → IsTrue (are_distinct (v ∷ vs))
+distinct_more v vs n d = and_true (not (has vs v)) (are_distinct vs) (ap not n) d
+
+distinct_step : (seen : List ℕ) (c : Case) (cases : List Case) (b : Bool) → ((more : List ℕ) → IsTrue (are_distinct (values_in (value_cases more cases))))
+    → IsTrue (are_distinct (values_in (if b then value_cases seen cases else value_case c ∷ value_cases (seen ++ c.value ∷ []) cases)))
+distinct_step seen c cases true k = k seen
+distinct_step seen c cases false k =
+    let rest = value_cases (seen ++ c.value ∷ []) cases in
+    ap are_distinct (more_values c rest)
+    ∙ distinct_more c.value (values_in rest) (none_seen (seen ++ c.value ∷ []) cases c.value (has_last seen c.value)) (k (seen ++ c.value ∷ []))
+
+values_distinct : (seen : List ℕ) (cases : List Case) → IsTrue (are_distinct (values_in (value_cases seen cases)))
+values_distinct seen [] = refl
+values_distinct seen (c ∷ cases) = distinct_step seen c cases (has seen c.value) (λ more. values_distinct more cases)
+
+-- the nodes of the cases are words
+abbrev ToWords : List Case → Type 0
+ToWords cases = (a : ℕ) → Contains (map (λ (c : Case). c.to) cases) a → a < 2 ^ 32
+
+value_allowed : (c : Case) (cs : List TreeCase) → c.value < 2 ^ 32 → c.to < 2 ^ 32 → IsTrue (allowed_in cs) → IsTrue (allowed_in (value_case c ∷ cs))
+value_allowed c cs v t h =
+    ap (λ (g : GroupAllowed). g.1 && allowed_in cs) (value_is c)
+    ∙ and_true (has_any (c.value ∷ []) && (are_words (c.value ∷ []) && tree_allowed (goes_to c.to) true)) (allowed_in cs) (one_allowed c.value (tree_allowed (goes_to c.to) true) v (goes_allowed c.to true t)) h
+
+values_step : (seen : List ℕ) (c : Case) (cases : List Case) (b : Bool) → c.value < 2 ^ 32 → c.to < 2 ^ 32 → ((more : List ℕ) → IsTrue (allowed_in (value_cases more cases)))
+    → IsTrue (allowed_in (if b then value_cases seen cases else value_case c ∷ value_cases (seen ++ c.value ∷ []) cases))
+values_step seen c cases true v t k = k seen
+values_step seen c cases false v t k = value_allowed c (value_cases (seen ++ c.value ∷ []) cases) v t (k (seen ++ c.value ∷ []))
+
+values_allowed : (seen : List ℕ) (cases : List Case) → IsTrue (have_words cases) → ToWords cases → IsTrue (allowed_in (value_cases seen cases))
+values_allowed seen [] h t = refl
+values_allowed seen (c ∷ cases) h t =
+    let p = both_true (is_word c.value) (have_words cases) h in
+    values_step seen c cases (has seen c.value) (lt_from c.value (2 ^ 32) p.0) (t c.to (first_in c.to (map (λ (c : Case). c.to) cases)))
+    (λ more. values_allowed more cases p.1 (λ a i. t a (later_in a c.to (map (λ (c : Case). c.to) cases) i)))
+
+-- a switch whose default does nothing
+switch_allowed : (cs : List TreeCase) (inside : Bool) → IsTrue (allowed_in cs) → IsTrue (are_distinct (values_in cs)) → IsTrue (tree_allowed (roll-Tree (Tree-F.Switch selector cs nothing)) inside)
+switch_allowed cs inside h d =
+    ap (λ g. g inside) (allowed_layer (Tree-F.Switch selector cs nothing))
+    ∙ and_true (allowed_in cs) (are_distinct (values_in cs) && tree_allowed nothing true) h (and_true (are_distinct (values_in cs)) (tree_allowed nothing true) d (nothing_allowed true))
+
+-- ---- what comes after a block
+
+next_allowed : (e : BlockEnd) (inside : Bool) → IsTrue (is_flow_end e) → ((a : ℕ) → Contains (nodes_of e) a → a < 2 ^ 32) → IsTrue (all (map tree_allowed (next_trees e)) inside)
+next_allowed (end.Go a) inside h n = and_true (tree_allowed (goes_to a) inside) true (goes_allowed a inside (n a (first_in a []))) refl
+next_allowed (end.Branch t a b) inside h n =
+    and_true (tree_allowed (selects (built.pick t (built.num a) (built.num b))) inside) true
+    (selects_allowed (built.pick t (built.num a) (built.num b)) inside (pick_fit t a b h (n a (first_in a (b ∷ []))) (n b (later_in b a (b ∷ []) (first_in b []))))) refl
+next_allowed (end.Switch e cases) inside h n =
+    let p = both_true (is_flow_word e) (have_words cases) h in
+    and_true (tree_allowed (selects e) inside) (tree_allowed (value_switch cases) inside && true) (selects_allowed e inside (word_fit e p.0))
+    (and_true (tree_allowed (value_switch cases) inside) true (switch_allowed (value_cases [] cases) inside (values_allowed [] cases p.1 n) (values_distinct [] cases)) refl)
+next_allowed end.Return inside h n = refl
+next_allowed (end.Leave e) inside h n = refl
+
+-- ---- the cases of blocks
+
+abbrev block_body : Block → Tree
+block_body b = roll-Tree (Tree-F.Seq (block_tree b ∷ next_trees b.end))
+
+body_allowed : (b : Block) (inside : Bool) → IsFine b → IsTrue (tree_allowed (block_body b) inside)
+body_allowed b inside h =
+    ap (λ g. g inside) (allowed_layer (Tree-F.Seq (block_tree b ∷ next_trees b.end)))
+    ∙ and_true (tree_allowed (block_tree b) inside) (all (map tree_allowed (next_trees b.end)) inside) (block_tree_allowed b inside h.rule)
+    (next_allowed b.end inside (both_true (are_flow_stmts b.stmts) (is_flow_end b.end) h.rule).1 h.nodes)
+
+case_is : (n : ℕ) (b : Block) → case_allowed (block_case n b) ≡ (n ∷ [], has_any (n ∷ []) && (are_words (n ∷ []) && tree_allowed (block_body b) true))
+case_is n b = case_allowed_layer (record { values = n ∷ []; body = block_body b })
+
+more_numbers : (n : ℕ) (b : Block) (cs : List TreeCase) → values_in (block_case n b ∷ cs) ≡ n ∷ values_in cs
+more_numbers n b cs = ap (λ (g : GroupAllowed). g.0 ++ values_in cs) (case_is n b)
+
+-- a lesser number has no case
+none_below : (bs : List Block) (k x : ℕ) → x < k → has (values_in (block_cases k bs)) x ≡ false
+none_below [] k x l = refl
+none_below (b ∷ bs) k x l =
+    ap (λ vs. has vs x) (more_numbers k b (block_cases (k + 1) bs))
+    ∙ ap (λ e. if e then true else has (values_in (block_cases (k + 1) bs)) x) (other_number x k (λ (i : x ≡ k). let z : ⊥ = omega (arith, l, i) in z))
+    ∙ none_below bs (k + 1) x (omega (arith, l))
+
+numbers_distinct : (bs : List Block) (k : ℕ) → IsTrue (are_distinct (values_in (block_cases k bs)))
+numbers_distinct [] k = refl
+numbers_distinct (b ∷ bs) k =
+    ap are_distinct (more_numbers k b (block_cases (k + 1) bs))
+    ∙ distinct_more k (values_in (block_cases (k + 1) bs)) (none_below bs (k + 1) k (omega arith)) (numbers_distinct bs (k + 1))
+
+cases_allowed : (bs : List Block) (k : ℕ) → Each IsFine bs → k + length bs < 2 ^ 32 → IsTrue (allowed_in (block_cases k bs))
+cases_allowed [] k h l = refl
+cases_allowed (b ∷ bs) k h l =
+    ap (λ (g : GroupAllowed). g.1 && allowed_in (block_cases (k + 1) bs)) (case_is k b)
+    ∙ and_true (has_any (k ∷ []) && (are_words (k ∷ []) && tree_allowed (block_body b) true)) (allowed_in (block_cases (k + 1) bs))
+    (one_allowed k (tree_allowed (block_body b) true) (omega (arith, l)) (body_allowed b true h.0))
+    (cases_allowed bs (k + 1) h.1 (omega (arith, l)))
+
+-- ---- the tree
+
+loop_allowed : (bs : List Block) (inside : Bool) → Each IsFine bs → length bs < 2 ^ 32 → IsTrue (tree_allowed (selector_loop bs) inside)
+loop_allowed bs inside h l =
+    ap (λ g. g inside) (allowed_layer (Tree-F.Loop (roll-Tree (Tree-F.Switch selector (block_cases 0 bs) nothing))))
+    ∙ switch_allowed (block_cases 0 bs) true (cases_allowed bs 0 h (omega (arith, l))) (numbers_distinct bs 0)
+
+pub plain_allowed : (f : Flow) → IsGiven f → IsTrue (tree_allowed (plain_tree f) false)
+plain_allowed f g =
+    let l = g.few_blocks in
+    let i = g.checked.entry_inside in
+    ap (λ h. h false) (allowed_layer (Tree-F.Seq (goes_to f.entry ∷ selector_loop f.blocks ∷ [])))
+    ∙ and_true (tree_allowed (goes_to f.entry) false) (tree_allowed (selector_loop f.blocks) false && true) (goes_allowed f.entry false (omega (arith, l, i)))
+    (and_true (tree_allowed (selector_loop f.blocks) false) true (loop_allowed f.blocks false (blocks_fine f g) (omega (arith, l))) refl)
