@@ -10,3 +10,5 @@ mod PlainRuns
 mod LineRuns
 pub mod FlowWords
 mod PlainFormed
+mod Counted
+mod Named
