@@ -11,11 +11,11 @@ use Rattle.micro_ir.specs.declared.flow.End.{End as BlockEnd}
 use Rattle.micro_ir.specs.declared.flow.End.TheVariants as end
 use Rattle.micro_ir.specs.declared.flow.Block.{Block}
 use Rattle.micro_ir.specs.declared.flow.Flow.{Flow}
-use Rattle.micro_ir.specs.Counts.{stores_of_stmts, stores_of, calls_of_stmts, calls_of_end, calls_of}
+use Rattle.micro_ir.specs.Counts.{stores_of_stmt, stores_of_stmts, stores_of, calls_of_stmt, calls_of_stmts, calls_of_end, calls_of}
 use Rattle.guarded.specs.declared.tree.SetTo.TheVariants as to
 use Rattle.guarded.specs.declared.tree.Tree.{Tree, Tree-F, roll-Tree}
 use Rattle.guarded.specs.declared.tree.TreeCase.{TreeCase}
-use Rattle.guarded.specs.Counts.{Weights, total, stmts_count, end_count, block_count, tree_count, case_count, each_loop, each_test, each_ext, each_store}
+use Rattle.guarded.specs.Counts.{Weights, total, stmt_count, stmts_count, end_count, block_count, tree_count, case_count, each_loop, each_test, each_ext, each_store}
 use Rattle.guarded.specs.Formed.{Bodies, bodies, deepest_alone, tree_bodies, case_bodies}
 use Rattle.guarded.proofs.Layers.{count_layer, case_count_layer, bodies_layer, case_bodies_layer}
 use Rattle.regions.specs.Plain.{selector, selects, goes_to, nothing, value_case, value_cases, value_switch, next_trees, tree_end, block_tree, block_case, block_cases, selector_loop, plain_tree}
@@ -173,19 +173,136 @@ module _ (w : Weights) where
 
 -- ---- each count
 
--- statements and ends have no loop and no test
+-- statements have no loop and no test
+no_loop : (s : Stmt) → stmt_count each_loop s ≡ 0
+no_loop (stmt.Set n e) = refl
+no_loop (stmt.Load n width e) = refl
+no_loop (stmt.Store width e f) = refl
+no_loop (stmt.Ext e) = refl
+no_loop (stmt.Trap vector e) = refl
+
 pub no_loops : (ss : List Stmt) → stmts_count each_loop ss ≡ 0
 no_loops [] = refl
-no_loops (stmt.Set n e ∷ ss) = no_loops ss
-no_loops (stmt.Load n width e ∷ ss) = no_loops ss
-no_loops (stmt.Store width e f ∷ ss) = no_loops ss
-no_loops (stmt.Ext e ∷ ss) = no_loops ss
-no_loops (stmt.Trap vector e ∷ ss) = no_loops ss
+no_loops (s ∷ ss) = let e = no_loop s in let l = no_loops ss in omega (arith, e, l)
+
+no_test : (s : Stmt) → stmt_count each_test s ≡ 0
+no_test (stmt.Set n e) = refl
+no_test (stmt.Load n width e) = refl
+no_test (stmt.Store width e f) = refl
+no_test (stmt.Ext e) = refl
+no_test (stmt.Trap vector e) = refl
 
 pub no_tests : (ss : List Stmt) → stmts_count each_test ss ≡ 0
 no_tests [] = refl
-no_tests (stmt.Set n e ∷ ss) = no_tests ss
-no_tests (stmt.Load n width e ∷ ss) = no_tests ss
-no_tests (stmt.Store width e f ∷ ss) = no_tests ss
-no_tests (stmt.Ext e ∷ ss) = no_tests ss
-no_tests (stmt.Trap vector e ∷ ss) = no_tests ss
+no_tests (s ∷ ss) = let e = no_test s in let l = no_tests ss in omega (arith, e, l)
+
+-- nor have ends of blocks in a tree
+pub end_no_loop : (e : BlockEnd) → end_count each_loop e ≡ 0
+end_no_loop (end.Go a) = refl
+end_no_loop (end.Branch t a b) = refl
+end_no_loop (end.Switch e cases) = refl
+end_no_loop end.Return = refl
+end_no_loop (end.Leave e) = refl
+
+pub end_no_test : (e : BlockEnd) → end_count each_test e ≡ 0
+end_no_test (end.Go a) = refl
+end_no_test (end.Branch t a b) = refl
+end_no_test (end.Switch e cases) = refl
+end_no_test end.Return = refl
+end_no_test (end.Leave e) = refl
+
+next_no_loop : (e : BlockEnd) → next_count each_loop e ≡ 0
+next_no_loop (end.Go a) = refl
+next_no_loop (end.Branch t a b) = refl
+next_no_loop (end.Switch e cases) = refl
+next_no_loop end.Return = refl
+next_no_loop (end.Leave e) = refl
+
+next_tests : (e : BlockEnd) → next_count each_test e ≡ switches_of_end e
+next_tests (end.Go a) = refl
+next_tests (end.Branch t a b) = refl
+next_tests (end.Switch e cases) = refl
+next_tests end.Return = refl
+next_tests (end.Leave e) = refl
+
+call_of : (s : Stmt) → stmt_count each_ext s ≡ calls_of_stmt s
+call_of (stmt.Set n e) = refl
+call_of (stmt.Load n width e) = refl
+call_of (stmt.Store width e f) = refl
+call_of (stmt.Ext e) = refl
+call_of (stmt.Trap vector e) = refl
+
+calls_in : (ss : List Stmt) → stmts_count each_ext ss ≡ calls_of_stmts ss
+calls_in [] = refl
+calls_in (s ∷ ss) = let e = call_of s in let l = calls_in ss in omega (arith, e, l)
+
+end_calls : (e : BlockEnd) → end_count each_ext e + next_count each_ext e ≡ calls_of_end e
+end_calls (end.Go a) = refl
+end_calls (end.Branch t a b) = refl
+end_calls (end.Switch e cases) = refl
+end_calls end.Return = refl
+end_calls (end.Leave e) = refl
+
+store_of : (s : Stmt) → stmt_count each_store s ≡ stores_of_stmt s
+store_of (stmt.Set n e) = refl
+store_of (stmt.Load n width e) = refl
+store_of (stmt.Store width e f) = refl
+store_of (stmt.Ext e) = refl
+store_of (stmt.Trap vector e) = refl
+
+stores_in : (ss : List Stmt) → stmts_count each_store ss ≡ stores_of_stmts ss
+stores_in [] = refl
+stores_in (s ∷ ss) = let e = store_of s in let l = stores_in ss in omega (arith, e, l)
+
+end_stores : (e : BlockEnd) → end_count each_store e + next_count each_store e ≡ 0
+end_stores (end.Go a) = refl
+end_stores (end.Branch t a b) = refl
+end_stores (end.Switch e cases) = refl
+end_stores end.Return = refl
+end_stores (end.Leave e) = refl
+
+blocks_loops : (bs : List Block) → blocks_count each_loop bs ≡ 0
+blocks_loops [] = refl
+blocks_loops (b ∷ bs) =
+    let s = no_loops b.stmts in
+    let e = end_no_loop b.end in
+    let n = next_no_loop b.end in
+    let l = blocks_loops bs in
+    omega (arith, s, e, n, l)
+
+blocks_tests : (bs : List Block) → blocks_count each_test bs ≡ switches_of bs
+blocks_tests [] = refl
+blocks_tests (b ∷ bs) =
+    let s = no_tests b.stmts in
+    let e = end_no_test b.end in
+    let n = next_tests b.end in
+    let l = blocks_tests bs in
+    omega (arith, s, e, n, l)
+
+blocks_calls : (bs : List Block) → blocks_count each_ext bs ≡ calls_of bs
+blocks_calls [] = refl
+blocks_calls (b ∷ bs) =
+    let s = calls_in b.stmts in
+    let e = end_calls b.end in
+    let l = blocks_calls bs in
+    omega (arith, s, e, l)
+
+blocks_stores : (bs : List Block) → blocks_count each_store bs ≡ stores_of bs
+blocks_stores [] = refl
+blocks_stores (b ∷ bs) =
+    let s = stores_in b.stmts in
+    let e = end_stores b.end in
+    let l = blocks_stores bs in
+    omega (arith, s, e, l)
+
+pub plain_loops : (f : Flow) → tree_count each_loop (plain_tree f) ≡ 1
+plain_loops f = let e = plain_counted each_loop f in let b = blocks_loops f.blocks in omega (arith, e, b)
+
+pub plain_tests : (f : Flow) → tree_count each_test (plain_tree f) ≡ suc (switches_of f.blocks)
+plain_tests f = let e = plain_counted each_test f in let b = blocks_tests f.blocks in omega (arith, e, b)
+
+pub plain_calls : (f : Flow) → tree_count each_ext (plain_tree f) ≡ calls_of f.blocks
+plain_calls f = let e = plain_counted each_ext f in let b = blocks_calls f.blocks in omega (arith, e, b)
+
+pub plain_stores : (f : Flow) → tree_count each_store (plain_tree f) ≡ stores_of f.blocks
+plain_stores f = let e = plain_counted each_store f in let b = blocks_stores f.blocks in omega (arith, e, b)

@@ -12,3 +12,6 @@ pub mod FlowWords
 mod PlainFormed
 mod Counted
 mod Named
+mod Lines
+mod LineFormed
+mod Whole

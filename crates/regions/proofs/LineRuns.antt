@@ -20,6 +20,7 @@ use Rattle.guarded.proofs.Layers.{does_layer}
 use Rattle.regions.specs.Follows.{Follows}
 use Rattle.regions.specs.Plain.{tree_end, block_tree}
 use Rattle.regions.specs.Straight.{Way, On, Over, Splits, way_of, with_rest, on_way, from_block, line, in_line, straight_tree}
+use Rattle.regions.proofs.Lines.{every_line, line_tree}
 use Rattle.regions.proofs.Core.{core}
 use Rattle.regions.proofs.Tracks.{Place, Clear, Sound, Walk, Kept, Tracks, past_kept, kept_on, sound_on, not_nowhere, from_tracks}
 use Rattle.regions.proofs.Following.{None_such, Starts, follows}
@@ -115,29 +116,8 @@ module _ (blocks : List Block) (rule : IsTrue (are_flow_blocks blocks)) where
     block_kept blocks nowhere (Clear None_such) (Clear None_such) d k s m b skip at r o
     (λ t g. over_end b.end (Clear None_such) d k s m t skip w (both_true (are_flow_stmts b.stmts) (is_flow_end b.end) r).1 o g) }
 
-  rest_is : (n c : ℕ) (b : Block) (ts : List Tree) (o : Option (List Tree)) → slice_get blocks n ≡ Some b → way_of b.end ≡ On c → with_rest (block_tree b) o ≡ Some ts
-      → ((us : List Tree) → o ≡ Some us → IsLine c us) → IsLine n ts
-  rest_is n c b ts None e w h g = absurd (let z : ⊥ = cc in z)
-  rest_is n c b ts (Some us) e w h g =
-      let same : block_tree b ∷ us ≡ ts = cc in
-      subst (IsLine n) same (longer n c b us e w (g us refl))
-
-  way_is : (n : ℕ) (b : Block) (w : Way) (ts : List Tree) (next : ℕ → Option (List Tree)) → slice_get blocks n ≡ Some b → way_of b.end ≡ w → on_way (block_tree b) w next ≡ Some ts
-      → ((c : ℕ) (us : List Tree) → next c ≡ Some us → IsLine c us) → IsLine n ts
-  way_is n b (On c) ts next e w h g = rest_is n c b ts (next c) e w h (g c)
-  way_is n b Over ts next e w h g =
-      let same : block_tree b ∷ [] ≡ ts = cc in
-      subst (IsLine n) same (last_one n b e w)
-  way_is n b Splits ts next e w h g = absurd (let z : ⊥ = cc in z)
-
-  block_is : (n : ℕ) (o : Option Block) (ts : List Tree) (next : ℕ → Option (List Tree)) → slice_get blocks n ≡ o → from_block o next ≡ Some ts
-      → ((c : ℕ) (us : List Tree) → next c ≡ Some us → IsLine c us) → IsLine n ts
-  block_is n None ts next e h g = absurd (let z : ⊥ = cc in z)
-  block_is n (Some b) ts next e h g = way_is n b (way_of b.end) ts next e refl h g
-
   line_is : (k n : ℕ) (ts : List Tree) → line blocks k n ≡ Some ts → IsLine n ts
-  line_is zero n ts h = absurd (let z : ⊥ = cc in z)
-  line_is (suc k) n ts h = block_is n (slice_get blocks n) ts (line blocks k) refl h (λ c us g. line_is k c us g)
+  line_is = every_line blocks IsLine last_one longer
 
 line_follows : (f : Flow) (ts : List Tree) → KeepsRule f → line f.blocks (length f.blocks) f.entry ≡ Some ts → Follows f (roll-Tree (Tree-F.Seq ts))
 line_follows f ts rule e = follows f nowhere (roll-Tree (Tree-F.Seq ts)) (λ s.
@@ -145,11 +125,7 @@ line_follows f ts rule e = follows f nowhere (roll-Tree (Tree-F.Seq ts)) (λ s.
     (from_tracks f.blocks nowhere (Clear (Before f.entry)) (Starts f.entry s) (Clear None_such) (Clear None_such) (in_turn (map tree_does ts)) (λ d n u i. (i.0, i.1))
     (line_is f.blocks rule (length f.blocks) f.entry ts e)))
 
-straight_from : (f : Flow) (t : Tree) (o : Option (List Tree)) → KeepsRule f → line f.blocks (length f.blocks) f.entry ≡ o → in_line o ≡ Some t → Follows f t
-straight_from f t None rule e h = absurd (let z : ⊥ = cc in z)
-straight_from f t (Some ts) rule e h =
-    let same : roll-Tree (Tree-F.Seq ts) ≡ t = cc in
-    subst (Follows f) same (line_follows f ts rule e)
-
 pub straight_follows : (f : Flow) (t : Tree) → KeepsRule f → straight_tree f ≡ Some t → Follows f t
-straight_follows f t rule h = straight_from f t (line f.blocks (length f.blocks) f.entry) rule refl h
+straight_follows f t rule h =
+    let l = line_tree (line f.blocks (length f.blocks) f.entry) t h in
+    subst (Follows f) l.seq (line_follows f l.trees rule l.line_is)
