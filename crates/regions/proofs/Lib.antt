@@ -1,2 +1,17 @@
 mod Agreed
 pub mod Core
+pub mod Entries
+pub mod Tracks
+pub mod Ended
+pub mod Following
+pub mod Standing
+pub mod Blocks
+mod PlainRuns
+mod LineRuns
+pub mod FlowWords
+mod PlainFormed
+mod Counted
+mod Named
+mod Lines
+mod LineFormed
+mod Whole

@@ -39,12 +39,16 @@ abbrev pub value_cases : List ℕ → List Case → List TreeCase
 value_cases seen [] = []
 value_cases seen (c ∷ cases) = if has seen c.value then value_cases seen cases else value_case c ∷ value_cases (seen ++ c.value ∷ []) cases
 
+-- the switch over the values of a Switch end
+abbrev pub value_switch : List Case → Tree
+value_switch cases = roll-Tree (Tree-F.Switch selector (value_cases [] cases) nothing)
+
 -- What comes after a block. A condition is read before the selector is set. The word of a Switch end stands in the
 -- selector itself until its case is found.
 abbrev pub next_trees : BlockEnd → List Tree
 next_trees (end.Go a) = goes_to a ∷ []
 next_trees (end.Branch t a b) = selects (built.pick t (built.num a) (built.num b)) ∷ []
-next_trees (end.Switch e cases) = selects e ∷ roll-Tree (Tree-F.Switch selector (value_cases [] cases) nothing) ∷ []
+next_trees (end.Switch e cases) = selects e ∷ value_switch cases ∷ []
 next_trees end.Return = []
 next_trees (end.Leave e) = []
 

@@ -3,6 +3,9 @@
 //! Promised is a well-formed tree that follows it.
 #![tactic(auto)]
 
+mod copy;
 mod laws;
+mod one_loop;
 
 pub use laws::following_agrees;
+pub use one_loop::plain;
