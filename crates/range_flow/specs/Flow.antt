@@ -1,5 +1,4 @@
 -- When a flow is that of a range.
-use Rattle.std.specs.Prelude.{◌≡◌, ℕ, ◌+◌, ◌%◌, ◌^◌, true, false, ◌==◌, List, ◌++◌, slice_get, Some, All, Contains}
 use Rattle.std.specs.Prelude.{◌≡◌, ℕ, ◌+◌, ◌%◌, ◌^◌, true, false, nat_eq, List, ◌++◌, slice_get, Some, All, Contains}
 use Rattle.std.specs.List.{IsDistinct}
 use Rattle.elf_image.specs.declared.image.Segment.{Segment}
@@ -34,7 +33,6 @@ pub record IsFlowOf (m : List Segment) (r : Range) (places : List ℕ) (f : Flow
   pub leaves : All IsLeaveTo outer
   pub outside : (a : ℕ) → Contains (addresses_of outer) a → IsOutsideOf r inner a
   pub complete : (a : ℕ) → IsOutsideOf r inner a → Contains (addresses_of outer) a
-  pub once : IsDistinct (λ a b. a == b) (addresses_of outer)
   pub once : IsDistinct nat_eq (addresses_of outer)
   pub blocks : f.blocks ≡ flow_blocks (inner ++ outer)
   pub entry : f.entry ≡ 0

@@ -1,5 +1,4 @@
 -- The pieces of a range's flow, and the flow's blocks, which are those of its pieces.
-use Rattle.std.specs.Prelude.{◌≡◌, ℕ, ◌+◌, ◌-◌, ◌%◌, ◌^◌, ◌≤◌, nat_eq, nat_lt, if◌then◌else◌, List, [], ◌∷◌, ◌++◌, length, map, slice_get, Option, Some, None}
 use Rattle.std.specs.Prelude.{◌≡◌, ℕ, ◌+◌, ◌-◌, ◌%◌, ◌^◌, nat_eq, nat_lt, if◌then◌else◌, List, [], ◌∷◌, ◌++◌, length, map, slice_get, Option, Some, None}
 use Rattle.elf_image.specs.declared.image.Segment.{Segment}
 use Rattle.elf_image.specs.declared.range.Range.{Range}
@@ -10,7 +9,6 @@ use Rattle.c_words.specs.Built.{num}
 use Rattle.micro_ir.specs.declared.flow.Block.{Block}
 use Rattle.micro_ir.specs.declared.flow.End.TheVariants as end
 use Rattle.micro_ir.specs.Laws.{moved_end}
-use Rattle.micro_ir.specs.Rule.{nodes_in}
 use Rattle.lift_parts.specs.Lifted.{AreBlocksOf}
 use Rattle.range_flow.specs.declared.piece.FlowPiece.{FlowPiece}
 
@@ -23,8 +21,6 @@ pub record IsPieceOf (m : List Segment) (r : Range) (p : FlowPiece) : Type 0 whe
   pub begins : BeginsAt m r p.at inst size
   pub successors : p.successors ≡ successors_of inst p.at ((p.at + size) % 2 ^ 32)
   pub blocks : AreBlocksOf inst p.at ((p.at + size) % 2 ^ 32) p.blocks
-  -- its blocks name few nodes
-  pub few : length (nodes_in p.blocks) ≤ 4
 
 -- the block that leaves for an address
 abbrev pub leave_block : ℕ → Block

@@ -3,7 +3,6 @@ use Rattle.std.specs.Prelude.{◌≡◌, ℕ, ◌+◌, ◌<◌, ◌≤◌, List,
 use Rattle.elf_image.specs.declared.image.Segment.{Segment}
 use Rattle.elf_image.specs.Image.{frozen_byte}
 use Rattle.dream_words.specs.Memory.{Mem, byte_at}
-use Rattle.x86_model.specs.Machine.{At, State, Ending}
 use Rattle.x86_model.specs.Machine.{Onward, At, State, Ending}
 use Rattle.machine.specs.Steps.{steps}
 use Rattle.machine.specs.Run.{Scene, step_at}
@@ -25,8 +24,6 @@ pub record Follows (m : List Segment) (s : State) (w : World) : Type 0 where
   pub frozen_bytes : HasFrozen m s.mem
   pub stands : Stands s w
 
--- at most so many steps of the machine from an address
-abbrev pub steps_from : Scene → ℕ → ℕ → State → _
 -- so many steps of the machine from an address
 abbrev pub steps_from : Scene → ℕ → ℕ → State → Onward State Ending
 steps_from sc n a s = steps State Ending (step_at sc) n a s

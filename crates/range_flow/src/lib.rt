@@ -3,14 +3,14 @@
 //! Promised is, as a law on the definitions, that the flow agrees with the machine.
 #![tactic(auto)]
 
-mod laws;
-mod piece;
 mod assembly;
 mod first_nodes;
+mod laws;
 mod lifted;
 mod nodes;
 mod outside;
 mod places;
+mod piece;
 mod successors;
 
 pub use laws::{flow_is_given, flows_agree, planned_flows_agree};
