@@ -1,0 +1,3 @@
+pub mod BitValues
+pub mod BitGoes
+pub mod BitBlocks
