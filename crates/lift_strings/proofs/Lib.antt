@@ -1,3 +1,10 @@
 pub mod BitValues
 pub mod BitGoes
 pub mod BitBlocks
+pub mod Reaching
+pub mod Comparing
+pub mod Bodies
+pub mod Repeating
+pub mod RoundFit
+pub mod TwoBlocks
+pub mod StringBlocks
