@@ -2,12 +2,16 @@
 
 ghost use Rattle.std.specs.Prelude.{◌≡◌, ℕ, ◌^◌, ◌<◌, [], ◌∷◌, ◌++◌, IfOk, OnOk};
 ghost use Rattle.dream_words.specs.Memory.{bytes_of};
+ghost use Rattle.dream_words.specs.declared.machine.Name.TheVariants.{T};
 ghost use Rattle.lift_alu.specs.Words.{alu_words};
 ghost use Rattle.lift_blocks.specs.Flags.{sets_flags};
 ghost use Rattle.lift_parts.specs.Lifted.{AreBlocksOf};
+ghost use Rattle.lift_parts.specs.Parts.{reg as reg_of};
+ghost use Rattle.micro_ir.specs.declared.flow.Stmt.TheVariants as stmt;
 ghost use Rattle.lift_strings.specs.Rounds.{source_word as source_word_of, body_stmts, where_so, raises, counts_down, step_stmts, round_end as round_end_of, round_block as round_block_of, test_block, with_test};
 ghost use Rattle.x86_formed.specs.Formed.{HasSpelling};
 ghost use Rattle.x86_inst.specs.declared.AluOp.TheVariants as alu;
+ghost use Rattle.x86_inst.specs.declared.StrOp.TheVariants as op;
 ghost use Rattle.x86_model.specs.Operands.{bits_of, width_of as width_by};
 ghost use Rattle.x86_model.specs.WideRows.{repeats as repeats_by, steps_source as steps_source_of, steps_target as steps_target_of};
 
@@ -49,6 +53,93 @@ fn compared(alloc: Global, size: Size, a: Expr, b: Expr) -> Result<AluLift, Allo
     }
 }
 
+// The source is read to t0.
+fn push_source_read(
+    alloc: Global,
+    stmts: &mut Vec<Stmt>,
+    size: Size,
+    seg: Seg,
+) -> Result<(), AllocError>
+    ensures { OnOk result (stmts.new.items ≡ stmts.old.items ++ stmt.Load (T 0) (width_by size) (source_word_of seg) ∷ []) }
+{
+    stmts.push(Stmt::Load(
+        Name::T(0),
+        width_of(size),
+        source_word(alloc, seg)?,
+    ))?;
+    Ok(())
+}
+
+// The target is read to a local.
+fn push_target_read(stmts: &mut Vec<Stmt>, size: Size, local: u32) -> Result<(), AllocError>
+    ensures { OnOk result (stmts.new.items ≡ stmts.old.items ++ stmt.Load (T local) (width_by size) (reg_of 7) ∷ []) }
+{
+    stmts.push(Stmt::Load(Name::T(local), width_of(size), reg(TARGET)))?;
+    Ok(())
+}
+
+// A word is stored at the target.
+fn push_target_store(stmts: &mut Vec<Stmt>, size: Size, e: Expr) -> Result<(), AllocError>
+    ensures { OnOk result (stmts.new.items ≡ stmts.old.items ++ stmt.Store (width_by size) (reg_of 7) e ∷ []) }
+{
+    stmts.push(Stmt::Store(width_of(size), reg(TARGET), e))?;
+    Ok(())
+}
+
+// MOVS.
+fn push_move(
+    alloc: Global,
+    stmts: &mut Vec<Stmt>,
+    size: Size,
+    seg: Seg,
+) -> Result<(), AllocError>
+    ensures { OnOk result (stmts.new.items ≡ stmts.old.items ++ body_stmts op.Movs size seg) }
+{
+    push_source_read(alloc, stmts, size, seg)?;
+    push_target_store(stmts, size, temp(0))
+}
+
+// LODS.
+fn push_fetch(
+    alloc: Global,
+    stmts: &mut Vec<Stmt>,
+    size: Size,
+    seg: Seg,
+) -> Result<(), AllocError>
+    ensures { OnOk result (stmts.new.items ≡ stmts.old.items ++ body_stmts op.Lods size seg) }
+{
+    push_source_read(alloc, stmts, size, seg)?;
+    stmts.push(set_part(alloc, size, 0, temp(0))?)?;
+    Ok(())
+}
+
+// CMPS.
+fn push_comparison(
+    alloc: Global,
+    stmts: &mut Vec<Stmt>,
+    size: Size,
+    seg: Seg,
+) -> Result<(), AllocError>
+    ensures { OnOk result (stmts.new.items ≡ stmts.old.items ++ body_stmts op.Cmps size seg) }
+{
+    push_source_read(alloc, stmts, size, seg)?;
+    push_target_read(stmts, size, 1)?;
+    push_flags(stmts, compared(alloc, size, temp(0), temp(1))?)
+}
+
+// SCAS.
+fn push_search(
+    alloc: Global,
+    stmts: &mut Vec<Stmt>,
+    size: Size,
+    seg: Seg,
+) -> Result<(), AllocError>
+    ensures { OnOk result (stmts.new.items ≡ stmts.old.items ++ body_stmts op.Scas size seg) }
+{
+    push_target_read(stmts, size, 0)?;
+    push_flags(stmts, compared(alloc, size, reg(0), temp(0))?)
+}
+
 // What a round reads, stores and compares.
 fn push_body(
     alloc: Global,
@@ -59,33 +150,12 @@ fn push_body(
 ) -> Result<(), AllocError>
     ensures { OnOk result (stmts.new.items ≡ stmts.old.items ++ body_stmts op size seg) }
 {
-    let width = width_of(size);
     match op {
-        StrOp::Movs => {
-            stmts.push(Stmt::Load(Name::T(0), width, source_word(alloc, seg)?))?;
-            stmts.push(Stmt::Store(width, reg(TARGET), temp(0)))?;
-            Ok(())
-        }
-        StrOp::Stos => {
-            stmts.push(Stmt::Store(width, reg(TARGET), reg(0)))?;
-            Ok(())
-        }
-        StrOp::Lods => {
-            stmts.push(Stmt::Load(Name::T(0), width, source_word(alloc, seg)?))?;
-            stmts.push(set_part(alloc, size, 0, temp(0))?)?;
-            Ok(())
-        }
-        StrOp::Cmps => {
-            let l = compared(alloc, size, temp(0), temp(1))?;
-            stmts.push(Stmt::Load(Name::T(0), width, source_word(alloc, seg)?))?;
-            stmts.push(Stmt::Load(Name::T(1), width, reg(TARGET)))?;
-            push_flags(stmts, l)
-        }
-        StrOp::Scas => {
-            let l = compared(alloc, size, reg(0), temp(0))?;
-            stmts.push(Stmt::Load(Name::T(0), width, reg(TARGET)))?;
-            push_flags(stmts, l)
-        }
+        StrOp::Movs => push_move(alloc, stmts, size, seg),
+        StrOp::Stos => push_target_store(stmts, size, reg(0)),
+        StrOp::Lods => push_fetch(alloc, stmts, size, seg),
+        StrOp::Cmps => push_comparison(alloc, stmts, size, seg),
+        StrOp::Scas => push_search(alloc, stmts, size, seg),
     }
 }
 
