@@ -21,7 +21,7 @@ use Rattle.micro_ir.specs.declared.flow.Stmt.{Stmt}
 use Rattle.micro_ir.specs.declared.flow.Stmt.TheVariants as stmt
 use Rattle.lift_parts.specs.Lifted.{AreBlocksOf, once}
 use Rattle.lift_parts.specs.Parts.{pair_reads, raw_word, reads, value_word, writes}
-use Rattle.lift_parts.proofs.Fit.{AreFit, IsFit, bin_fit, deeper, fit_append, fit_word, masked_fit, more_fit, none_fit, num_fit, pair_reads_fit, raw_fit, reads_fit, value_fit}
+use Rattle.lift_parts.proofs.Fit.{AreFit, IsFit, bin_fit, deeper, fit_word, masked_fit, more_fit, none_fit, num_fit, pair_reads_fit, raw_fit, reads_fit, value_fit}
 use Rattle.lift_parts.proofs.FitShapes.{IsCount, fn1_fit, masked_count, not_fit, shl_count_fit, shr_count_fit}
 use Rattle.lift_parts.proofs.Sureness.{both_true}
 use Rattle.lift_parts.proofs.FitWrites.{writes_fit}
@@ -29,6 +29,7 @@ use Rattle.lift_blocks.specs.Ends.{goes_on}
 use Rattle.lift_blocks.proofs.OneBlock.{goes_blocks}
 use Rattle.lift_strings.specs.BitForms.{bit_stmts, bit_word, index_word, keeps_bit, old_bit, one_bit, place_word, scan_flag, scan_stmts}
 use Rattle.lift_strings.proofs.BitGoes.{bit_goes, scan_goes}
+use Rattle.lift_strings.proofs.Fitting.{after_fit}
 
 -- ---- tests of bits
 
@@ -58,7 +59,7 @@ keeps_fit size d s h k = let f = old_fit size d s h k in more_fit (stmt.Set (nam
 bit_rest_fit : (b : Bool) (f : BitOp) (size : Size) (d s : Operand) → IsTrue (is_formed_operand d) → IsTrue (is_formed_operand s)
     → AreFit (once (if b then is_memory d else false)) (if b then keeps_bit size d s ++ writes size d (bit_word f size d s) else keeps_bit size d s)
 bit_rest_fit true f size d s h k =
-    fit_append (keeps_bit size d s) (writes size d (bit_word f size d s)) 0 (once (is_memory d)) (keeps_fit size d s h k) (writes_fit 6 size d (bit_word f size d s) (lit≤ tt) (lit≤ tt) h (bit_fit f size d s h k))
+    after_fit (keeps_bit size d s) (writes size d (bit_word f size d s)) (once (is_memory d)) (keeps_fit size d s h k) (writes_fit 6 size d (bit_word f size d s) (lit≤ tt) (lit≤ tt) h (bit_fit f size d s h k))
 bit_rest_fit false f size d s h k = keeps_fit size d s h k
 
 -- the operands of an instruction that is formed
@@ -68,7 +69,7 @@ two_formed d s t = let (p, q) = both_true (is_formed_operand d) _ t in (p, (both
 bit_stmts_fit : (f : BitOp) (size : Size) (d s : Operand) → are_formed d s ≡ true → AreFit (once (if writes_bit f then is_memory d else false)) (bit_stmts f size d s)
 bit_stmts_fit f size d s t =
     let (h, k) = two_formed d s t in
-    fit_append (pair_reads size d s) _ 0 (once (if writes_bit f then is_memory d else false)) (pair_reads_fit size d s h k) (bit_rest_fit (writes_bit f) f size d s h k)
+    after_fit (pair_reads size d s) _ (once (if writes_bit f then is_memory d else false)) (pair_reads_fit size d s h k) (bit_rest_fit (writes_bit f) f size d s h k)
 
 -- the block of BT, BTS, BTR or BTC
 pub bit_blocks : (f : BitOp) (size : Size) (d s : Operand) (at next : ℕ) → HasSpelling (i.Bit f size d s) → AreBlocksOf (i.Bit f size d s) at next (goes_on at (bit_stmts f size d s) ∷ [])
@@ -88,8 +89,8 @@ scan_flag_fit false = let f = num_fit 1 0 (lit≤ tt) (lit< tt) in more_fit (stm
 scan_stmts_fit : (up : Bool) (size : Size) (d : ℕ) (s : Operand) (tz : Bool) → (is_formed (i.Scan up size d s tz)) ≡ true → AreFit 0 (scan_stmts up size d s tz)
 scan_stmts_fit up size d s tz t =
     let (p, q) = both_true (is_register d) (is_formed_operand s) t in
-    fit_append (reads size s) _ 0 0 (reads_fit size s q)
-    (fit_append (scan_flag tz) _ 0 0 (scan_flag_fit tz) (writes_fit 4 size (o.Reg d) _ (lit≤ tt) (lit≤ tt) p (place_fit up (value_word size s) (value_fit size s q))))
+    after_fit (reads size s) _ 0 (reads_fit size s q)
+    (after_fit (scan_flag tz) _ 0 (scan_flag_fit tz) (writes_fit 4 size (o.Reg d) _ (lit≤ tt) (lit≤ tt) p (place_fit up (value_word size s) (value_fit size s q))))
 
 -- the block of BSF or BSR
 pub scan_blocks : (up : Bool) (size : Size) (d : ℕ) (s : Operand) (tz : Bool) (at next : ℕ) → HasSpelling (i.Scan up size d s tz)

@@ -55,9 +55,9 @@ is_known false = refl
 -- a flag is set, and the rest leads on from there
 sets_flag : (Q : World → Type 0) (n : ℕ) (e : CExpr) (b : Bit) (rest : List Stmt) (w : World) → IsSome (known b) → IsShownBy b (word_of e w.names) → AreNames w.names
     → ((x : ℕ) → StandsFor b x → AreNames (with_name w.names (name.Flag n) x) → Leading Q rest (set_word (name.Flag n) x w)) → Leading Q (stmt.Set (name.Flag n) e ∷ rest) w
-sets_flag Q n e b rest w g i h then =
+sets_flag Q n e b rest w g i h on =
     let x = word_shown b (word_of e w.names) g i in
-    let t = then x.0 x.3 (names_set w.names (name.Flag n) x.0 h x.2) in
+    let t = on x.0 x.3 (names_set w.names (name.Flag n) x.0 h x.2) in
     (t.0, set_runs (name.Flag n) e x.0 x.1 t.1, t.2)
 
 -- ---- all flags

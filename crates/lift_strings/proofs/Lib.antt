@@ -1,5 +1,6 @@
 pub mod BitValues
 pub mod BitGoes
+pub mod Fitting
 pub mod BitBlocks
 pub mod Reaching
 pub mod Comparing

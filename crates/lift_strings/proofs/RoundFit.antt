@@ -21,12 +21,13 @@ use Rattle.micro_ir.specs.declared.flow.Stmt.TheVariants as stmt
 use Rattle.micro_ir.specs.Rule.{is_flow_target, is_flow_word}
 use Rattle.lift_parts.specs.Lifted.{once}
 use Rattle.lift_parts.specs.Parts.{flag, reg, temp}
-use Rattle.lift_parts.proofs.Fit.{AreFit, IsFit, bin_fit, both_hold, fit_append, fit_word, more_fit, name_fit, none_fit, num_fit, reg_fit, temp_fit}
+use Rattle.lift_parts.proofs.Fit.{AreFit, IsFit, bin_fit, both_hold, fit_word, name_fit, none_fit, num_fit, reg_fit, temp_fit}
 use Rattle.lift_parts.proofs.FitShapes.{IsFitCond, cmp_fit}
 use Rattle.lift_parts.proofs.FitWrites.{set_fit, set_part_fit, store_fit}
 use Rattle.lift_alu.specs.Words.{flag_clear, flag_set}
 use Rattle.lift_strings.specs.Rounds.{body_stmts, counts_down, raises, source_word, step_stmts, where_so}
 use Rattle.lift_strings.proofs.Comparing.{compared_fit}
+use Rattle.lift_strings.proofs.Fitting.{after_fit, before_fit, then_fit}
 
 source_fit : (s : Seg) → IsFit 2 (source_word s)
 source_fit seg.None = reg_fit 2 6 (lit≤ tt) (lit< tt)
@@ -41,11 +42,11 @@ temp_is_fit n h = temp_fit 1 n (lit≤ tt) (omega arith)
 
 -- a read of the source or the target before others
 source_load_fit : (size : Size) (s : Seg) (ss : List Stmt) (stores : ℕ) → AreFit stores ss → AreFit stores (stmt.Load (name.T 0) (width_of size) (source_word s) ∷ ss)
-source_load_fit size s ss stores h = let f = source_fit s in more_fit _ ss stores 0 (fit_word 2 (source_word s) (lit≤ tt) f) f.safe refl refl h
+source_load_fit size s ss stores h = let f = source_fit s in before_fit (stmt.Load (name.T 0) (width_of size) (source_word s)) ss stores (fit_word 2 (source_word s) (lit≤ tt) f) f.safe refl refl h
 
 target_load_fit : (size : Size) (n : ℕ) (ss : List Stmt) → IsTrue (is_flow_target (name.T n)) → AreFit 0 ss → AreFit 0 (stmt.Load (name.T n) (width_of size) (reg 7) ∷ ss)
 target_load_fit size n ss t h =
-    more_fit (stmt.Load (name.T n) (width_of size) (reg 7)) ss 0 0 (both_hold (is_flow_target (name.T n)) (is_flow_word (reg 7)) t (fit_word 1 (reg 7) (lit≤ tt) target_fit)) target_fit.safe refl refl h
+    before_fit (stmt.Load (name.T n) (width_of size) (reg 7)) ss 0 (both_hold (is_flow_target (name.T n)) (is_flow_word (reg 7)) t (fit_word 1 (reg 7) (lit≤ tt) target_fit)) target_fit.safe refl refl h
 
 body_fit : (f : StrOp) (size : Size) (s : Seg) → AreFit (once (writes_string f)) (body_stmts f size s)
 body_fit Movs size s = source_load_fit size s _ 1 (store_fit 1 1 size (reg 7) (temp 0) (lit≤ tt) (lit≤ tt) target_fit (temp_is_fit 0 (lit< tt)))
@@ -73,17 +74,13 @@ counts_fit = set_fit 2 1 (bin op.Sub (reg 1) (num 1)) (lit≤ tt) (lit< tt) (bin
 
 step_fit : (f : StrOp) (size : Size) (r : Rep) → AreFit 0 (step_stmts f size r)
 step_fit f size r =
-    fit_append (where_so (steps_source f) (raises size 6)) _ 0 0 (where_fit (steps_source f) (raises size 6) (raises_fit size 6 (lit< tt)))
-    (fit_append (where_so (steps_target f) (raises size 7)) _ 0 0 (where_fit (steps_target f) (raises size 7) (raises_fit size 7 (lit< tt)))
+    after_fit (where_so (steps_source f) (raises size 6)) _ 0 (where_fit (steps_source f) (raises size 6) (raises_fit size 6 (lit< tt)))
+    (after_fit (where_so (steps_target f) (raises size 7)) _ 0 (where_fit (steps_target f) (raises size 7) (raises_fit size 7 (lit< tt)))
     (where_fit (repeats r) counts_down counts_fit))
-
-no_more : (n : ℕ) → n + 0 ≡ n
-no_more n = omega arith
 
 pub round_fit : (f : StrOp) (size : Size) (r : Rep) (s : Seg) → AreFit (once (writes_string f)) (body_stmts f size s ++ step_stmts f size r)
 round_fit f size r s =
-    subst (λ n. AreFit n (body_stmts f size s ++ step_stmts f size r)) (no_more (once (writes_string f)))
-    (fit_append (body_stmts f size s) (step_stmts f size r) (once (writes_string f)) 0 (body_fit f size s) (step_fit f size r))
+    then_fit (body_stmts f size s) (step_stmts f size r) (once (writes_string f)) (body_fit f size s) (step_fit f size r)
 
 -- the tests of ZF
 pub set_cond_fit : IsFitCond 2 (flag_set 2)

@@ -80,5 +80,5 @@ two_blocks x at next b e s a f c safe flow below ends place effect =
       stores = omega arith;
       calls = omega arith;
       ends = ends;
-      places = (refl, place, tt);
+      places = (refl, (place, tt));
     }
