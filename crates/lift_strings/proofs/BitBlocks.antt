@@ -1,5 +1,5 @@
 -- The blocks of BT, BTS, BTR, BTC, BSF and BSR.
-use Rattle.std.proofs.Common.{◌≡◌, ℕ, ◌+◌, ◌-◌, ◌^◌, ◌<◌, ◌≤◌, Bool, true, false, List, [], ◌∷◌, ◌++◌, refl, sym, subst, lit<, lit≤, arith}
+use Rattle.std.proofs.Common.{◌≡◌, ℕ, ◌-◌, ◌<◌, Bool, true, false, [], ◌∷◌, ◌++◌, refl, lit<, lit≤}
 use Rattle.std.specs.Prelude.{if◌then◌else◌, IsTrue}
 use Rattle.dream_words.specs.declared.machine.Name.TheVariants as name
 use Rattle.x86_inst.specs.declared.BitOp.{BitOp}
@@ -16,8 +16,7 @@ use Rattle.x86_model.specs.Successors.{is_memory, writes_bit}
 use Rattle.c_syntax.specs.declared.syntax.CBin.TheVariants as op
 use Rattle.c_syntax.specs.declared.syntax.CFn1.TheVariants.{Bsf, Bsr}
 use Rattle.c_syntax.specs.declared.syntax.CExpr.{CExpr}
-use Rattle.c_words.specs.Built.{bin, num, word_not}
-use Rattle.micro_ir.specs.declared.flow.Stmt.{Stmt}
+use Rattle.c_words.specs.Built.{num}
 use Rattle.micro_ir.specs.declared.flow.Stmt.TheVariants as stmt
 use Rattle.lift_parts.specs.Lifted.{AreBlocksOf, once}
 use Rattle.lift_parts.specs.Parts.{pair_reads, raw_word, reads, value_word, writes}

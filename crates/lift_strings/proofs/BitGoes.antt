@@ -1,5 +1,5 @@
 -- BT, BTS, BTR, BTC, BSF and BSR lead on as their steps do.
-use Rattle.std.proofs.Common.{◌≡◌, ℕ, zero, suc, ◌+◌, ◌/◌, ◌%◌, ◌^◌, ◌<◌, ◌≤◌, ◌==◌, ◌&&◌, nat_eq, nat_le, nat_lt, Bool, true, false, List, [], ◌∷◌, ◌++◌, Some, refl, sym, ap, ◌∙◌, subst, arith, lit<}
+use Rattle.std.proofs.Common.{◌≡◌, ℕ, zero, suc, ◌+◌, ◌/◌, ◌%◌, ◌^◌, ◌<◌, ◌≤◌, ◌==◌, ◌&&◌, nat_eq, nat_le, nat_lt, Bool, true, false, List, ◌++◌, Some, refl, sym, ap, subst, arith, lit<}
 use Rattle.std.specs.Prelude.{if◌then◌else◌}
 use Rattle.std.proofs.lemmas.List.{append_assoc}
 use Rattle.std.proofs.lemmas.Nat.{mod_below}
@@ -19,19 +19,18 @@ use Rattle.x86_model.specs.declared.effect.Step.{Step}
 use Rattle.x86_model.specs.Effects.{done, put, stray}
 use Rattle.x86_model.specs.Operands.{bits_of, value_of}
 use Rattle.x86_model.specs.Successors.{writes_bit}
-use Rattle.x86_model.specs.WideRows.{bit_flags, bit_row, bit_value, bit_written, place_of, scan_flags, scan_row}
+use Rattle.x86_model.specs.WideRows.{bit_flags, bit_value, bit_written, place_of, scan_flags}
 use Rattle.c_syntax.specs.declared.syntax.CExpr.{CExpr}
 use Rattle.c_syntax.specs.Value.{word_of}
 use Rattle.c_words.specs.Built.{num}
 use Rattle.c_words.proofs.Layers.{word_layer}
 use Rattle.micro_ir.specs.declared.flow.Stmt.{Stmt}
-use Rattle.micro_ir.specs.declared.flow.Stmt.TheVariants as stmt
 use Rattle.lift_parts.specs.Parts.{pair_reads, reads, value_word, writes}
 use Rattle.lift_parts.specs.Shown.{AreNames, Runs, Shows, ShowsRead}
 use Rattle.lift_parts.specs.Stands.{FlagsStand, Stands, state_in}
 use Rattle.lift_parts.proofs.Chains.{none_run, runs_append, set_runs}
 use Rattle.lift_parts.proofs.Kept.{AfterRead, flags_stay, pair_reads_run, reads_run}
-use Rattle.lift_parts.proofs.Values.{value_is, value_is_word}
+use Rattle.lift_parts.proofs.Values.{value_is}
 use Rattle.lift_parts.proofs.Writes.{names_set, shows_flag, writes_run}
 use Rattle.lift_blocks.specs.Effects.{GoesOn, LeadsOn, after}
 use Rattle.lift_blocks.proofs.Common.{KeepsRest, by_step, leads_next, put_go, read_keeps, written_stands}

@@ -1,10 +1,9 @@
 -- What the words of BT, BTS, BTR and BTC give.
-use Rattle.std.proofs.Common.{◌≡◌, ℕ, zero, suc, ◌+◌, ◌-◌, ◌*◌, ◌/◌, ◌%◌, ◌^◌, ◌<◌, ◌==◌, nat_lt, Bool, true, false, bit_and, bit_or, bit_xor, Option, Some, None, refl, sym, ap, ◌∙◌, subst, arith, lit<}
+use Rattle.std.proofs.Common.{◌≡◌, ℕ, zero, suc, ◌-◌, ◌*◌, ◌/◌, ◌%◌, ◌^◌, ◌<◌, ◌==◌, nat_lt, true, bit_and, bit_or, bit_xor, Some, None, refl, sym, ap, ◌∙◌, arith}
 use Rattle.std.specs.Prelude.{if◌then◌else◌}
 use Rattle.std.proofs.lemmas.Bool.Decides.{nat_tests}
-use Rattle.std.proofs.lemmas.Nat.{and_mask, and_mod, and_le_l, or_lt, xor_lt, pow_below, mod_below}
+use Rattle.std.proofs.lemmas.Nat.{and_mask, and_mod, and_le_l, or_lt, xor_lt, pow_below}
 use Rattle.std.proofs.Math.Nat.{mod-eq_of_lt}
-use Rattle.dream_words.specs.declared.machine.Bit.TheVariants.{Zero, One}
 use Rattle.dream_words.specs.Words.{low_part}
 use Rattle.run_parts.specs.World.{Names}
 use Rattle.x86_inst.specs.declared.BitOp.{BitOp}
@@ -17,7 +16,6 @@ use Rattle.x86_model.specs.Arithmetic.{flag_if}
 use Rattle.x86_model.specs.Operands.{bits_of, value_of}
 use Rattle.x86_model.specs.WideRows.{bit_value}
 use Rattle.c_syntax.specs.declared.syntax.CBin.TheVariants as op
-use Rattle.c_syntax.specs.declared.syntax.CExpr.{CExpr}
 use Rattle.c_syntax.specs.Value.{word_of}
 use Rattle.c_words.specs.Built.{bin, num, word_not}
 use Rattle.lift_parts.specs.Parts.{raw_word, value_word}

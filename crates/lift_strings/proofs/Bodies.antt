@@ -1,14 +1,13 @@
 -- What a round reads, stores and compares reaches the state after its effect, before ESI, EDI and ECX step.
-use Rattle.std.proofs.Common.{◌≡◌, ℕ, ◌+◌, ◌%◌, ◌^◌, ◌<◌, ◌≤◌, Bool, true, false, [], ◌∷◌, ◌++◌, Some, refl, sym, ap, ◌∙◌, subst, arith}
-use Rattle.std.specs.Prelude.{if◌then◌else◌}
+use Rattle.std.proofs.Common.{◌≡◌, ℕ, ◌+◌, ◌%◌, ◌^◌, ◌<◌, false, Some, refl, sym, ap, ◌∙◌, subst, arith}
 use Rattle.std.proofs.Math.Nat.{mod-eq_of_lt}
 use Rattle.dream_words.specs.declared.machine.Flags.{Flags}
 use Rattle.dream_words.specs.declared.machine.Name.TheVariants as name
-use Rattle.dream_words.specs.Memory.{Mem as Memory, bytes_of, load, store}
+use Rattle.dream_words.specs.Memory.{bytes_of, load, store}
 use Rattle.dream_words.specs.Ranges.{AreBytes}
 use Rattle.dream_words.specs.Words.{low_part}
 use Rattle.run_parts.specs.Effects.{set_word}
-use Rattle.run_parts.specs.World.{Names, World, regs_in, with_name}
+use Rattle.run_parts.specs.World.{Names, World, regs_in}
 use Rattle.x86_inst.specs.declared.Seg.{Seg}
 use Rattle.x86_inst.specs.declared.Seg.TheVariants as seg
 use Rattle.x86_inst.specs.declared.Size.{Size}
@@ -24,13 +23,12 @@ use Rattle.x86_model.specs.Operands.{base_of, bits_of, part_of, width_of}
 use Rattle.x86_model.specs.Reads.{round_reads}
 use Rattle.x86_model.specs.WideRows.{round_of}
 use Rattle.c_syntax.specs.declared.syntax.CBin.TheVariants as op
-use Rattle.c_syntax.specs.declared.syntax.CExpr.{CExpr}
 use Rattle.c_syntax.specs.Value.{word_of}
 use Rattle.c_words.specs.Built.{name as named}
-use Rattle.lift_parts.specs.Parts.{reg, set_part, temp}
+use Rattle.lift_parts.specs.Parts.{reg, temp}
 use Rattle.lift_parts.specs.Shown.{AreNames, Runs}
 use Rattle.lift_parts.specs.Stands.{FlagsStand}
-use Rattle.lift_parts.proofs.Chains.{load_runs, none_run, set_runs, store_runs}
+use Rattle.lift_parts.proofs.Chains.{load_runs, none_run, store_runs}
 use Rattle.lift_parts.proofs.Kept.{flags_stay, flags_temp}
 use Rattle.lift_parts.proofs.Values.{load_fits, load_low, low_again, word_fits}
 use Rattle.lift_parts.proofs.Writes.{names_set, part_runs, store_low}

@@ -1,6 +1,6 @@
 -- Flags are set to the words of a comparison.
-use Rattle.std.proofs.Common.{◌≡◌, ℕ, ◌+◌, ◌-◌, ◌^◌, ◌<◌, ◌≤◌, ◌==◌, Bool, true, false, List, [], ◌∷◌, ◌++◌, Option, Some, refl, lit<, lit≤, inl, inr, arith}
-use Rattle.std.specs.Prelude.{if◌then◌else◌, IsSome, IsTrue}
+use Rattle.std.proofs.Common.{◌≡◌, ℕ, ◌+◌, ◌^◌, ◌<◌, ◌≤◌, Bool, true, false, List, [], ◌∷◌, Option, Some, refl, lit<, lit≤, inl, inr, arith}
+use Rattle.std.specs.Prelude.{IsSome, IsTrue}
 use Rattle.dream_words.specs.declared.machine.Bit.{Bit}
 use Rattle.dream_words.specs.declared.machine.Bit.TheVariants.{Zero, One, Undefined}
 use Rattle.dream_words.specs.declared.machine.Flags.{Flags}
@@ -19,11 +19,11 @@ use Rattle.c_syntax.specs.declared.syntax.CCmp.TheVariants.{Eq, Lt}
 use Rattle.c_syntax.specs.declared.syntax.CFn1.TheVariants.{Par}
 use Rattle.c_syntax.specs.declared.syntax.CExpr.{CExpr}
 use Rattle.c_syntax.specs.Value.{word_of}
-use Rattle.c_words.specs.Built.{bin, cmp, fn1, num, word_if}
+use Rattle.c_words.specs.Built.{bin, cmp, num}
 use Rattle.micro_ir.specs.declared.flow.Stmt.{Stmt}
 use Rattle.micro_ir.specs.declared.flow.Stmt.TheVariants as stmt
 use Rattle.micro_ir.specs.Rule.{is_flow_target, is_flow_word}
-use Rattle.lift_parts.specs.Shown.{AreNames, Runs}
+use Rattle.lift_parts.specs.Shown.{AreNames}
 use Rattle.lift_parts.specs.Stands.{FlagsStand, StandsFor}
 use Rattle.lift_parts.proofs.Chains.{none_run, set_runs}
 use Rattle.lift_parts.proofs.Fit.{AreFit, IsFit, bin_fit, both_hold, deeper, fit_word, masked_fit, more_fit, none_fit, num_fit, shr_fit}

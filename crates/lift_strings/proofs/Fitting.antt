@@ -1,5 +1,5 @@
 -- Statements that are fit, with statements before them that don't store.
-use Rattle.std.proofs.Common.{◌≡◌, ℕ, ◌+◌, List, ◌∷◌, ◌++◌, refl, subst, arith}
+use Rattle.std.proofs.Common.{◌≡◌, ℕ, ◌+◌, List, ◌∷◌, ◌++◌, subst, arith}
 use Rattle.std.specs.Prelude.{IsTrue}
 use Rattle.micro_ir.specs.declared.flow.Stmt.{Stmt}
 use Rattle.micro_ir.specs.Counts.{calls_of_stmt, stores_of_stmt}

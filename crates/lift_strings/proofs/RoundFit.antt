@@ -1,6 +1,6 @@
 -- The statements of a round, and its tests of ZF, keep the rule of flows and are safe.
-use Rattle.std.proofs.Common.{◌≡◌, ℕ, ◌+◌, ◌^◌, ◌<◌, ◌≤◌, Bool, true, false, [], ◌∷◌, ◌++◌, List, refl, subst, lit<, lit≤, arith}
-use Rattle.std.specs.Prelude.{if◌then◌else◌, IsTrue}
+use Rattle.std.proofs.Common.{ℕ, ◌^◌, ◌<◌, Bool, true, false, [], ◌∷◌, ◌++◌, List, refl, lit<, lit≤, arith}
+use Rattle.std.specs.Prelude.{IsTrue}
 use Rattle.dream_words.specs.declared.machine.Name.TheVariants as name
 use Rattle.dream_words.specs.Memory.{bytes_of}
 use Rattle.x86_inst.specs.declared.Rep.{Rep}

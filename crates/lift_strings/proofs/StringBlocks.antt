@@ -1,6 +1,6 @@
 -- The blocks of string instructions.
-use Rattle.std.proofs.Common.{◌≡◌, ℕ, ◌+◌, ◌%◌, ◌^◌, ◌<◌, ◌≤◌, ◌==◌, nat_eq, Bool, true, false, not, List, [], ◌∷◌, ◌++◌, Some, refl, sym, ap, ◌∙◌, subst, lit<, lit≤, arith}
-use Rattle.std.specs.Prelude.{if◌then◌else◌, IsSome, IsTrue}
+use Rattle.std.proofs.Common.{◌≡◌, ℕ, nat_eq, Bool, true, false, not, [], ◌∷◌, ◌++◌, Some, refl, sym, ap, ◌∙◌, subst, lit≤}
+use Rattle.std.specs.Prelude.{if◌then◌else◌, IsSome}
 use Rattle.dream_words.specs.declared.machine.Bit.{Bit}
 use Rattle.dream_words.specs.declared.machine.Bit.TheVariants.{Zero, One, Undefined}
 use Rattle.dream_words.specs.declared.machine.Flags.{Flags}
@@ -28,7 +28,7 @@ use Rattle.c_syntax.specs.declared.syntax.CCmp.TheVariants.{Eq, Ne}
 use Rattle.c_words.specs.Built.{num}
 use Rattle.micro_ir.specs.Run.{block_leads, branch, end_leads}
 use Rattle.micro_ir.specs.World.{IsWorld}
-use Rattle.lift_parts.specs.Lifted.{AreBlocksOf, Matches, once, through}
+use Rattle.lift_parts.specs.Lifted.{AreBlocksOf, Matches, through}
 use Rattle.lift_parts.specs.Parts.{flag}
 use Rattle.lift_parts.specs.Shown.{Runs}
 use Rattle.lift_parts.specs.Stands.{FlagsStand, Stands, StandsFor, state_in}

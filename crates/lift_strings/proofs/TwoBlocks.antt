@@ -1,5 +1,5 @@
 -- The test of ECX and a round are the two blocks of a repeated string instruction.
-use Rattle.std.proofs.Common.{◌≡◌, ℕ, zero, suc, ◌+◌, ◌<◌, nat_eq, Bool, true, false, not, List, [], ◌∷◌, length, Some, refl, sym, ap, ◌∙◌, subst, lit<, lit≤, arith}
+use Rattle.std.proofs.Common.{◌≡◌, ℕ, zero, suc, ◌+◌, ◌<◌, nat_eq, Bool, true, false, not, List, [], ◌∷◌, length, Some, refl, sym, ap, subst, lit<, lit≤, arith}
 use Rattle.std.specs.Prelude.{slice_get, IsTrue, ◌&&◌}
 use Rattle.dream_words.specs.declared.machine.Flags.{Flags}
 use Rattle.run_parts.specs.World.{World}
@@ -8,12 +8,11 @@ use Rattle.x86_inst.specs.declared.Inst.{Inst}
 use Rattle.x86_model.specs.Leads.{instruction_does}
 use Rattle.x86_model.specs.Successors.{successors_of, stores, asks}
 use Rattle.c_syntax.specs.declared.syntax.CCmp.TheVariants.{Ne}
-use Rattle.c_syntax.specs.Value.{truth_of}
-use Rattle.c_words.specs.Built.{cmp, num}
+use Rattle.c_words.specs.Built.{num}
 use Rattle.micro_ir.specs.declared.flow.Block.{Block}
 use Rattle.micro_ir.specs.Counts.{calls_of_end, calls_of_stmts, stores_of_stmts}
 use Rattle.micro_ir.specs.Rule.{are_flow_stmts, is_flow_block, is_flow_cond, is_flow_end}
-use Rattle.micro_ir.specs.Run.{Arrive, block_leads, branch, enter}
+use Rattle.micro_ir.specs.Run.{block_leads, branch, enter}
 use Rattle.micro_ir.specs.World.{IsWorld}
 use Rattle.lift_parts.specs.Lifted.{AreBlocksOf, EndAs, Matches, Stays, block_count, once, through}
 use Rattle.lift_parts.specs.Parts.{reg}
