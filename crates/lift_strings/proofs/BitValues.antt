@@ -124,8 +124,8 @@ module _ (size : Size) (d s : Operand) (a : Step) (v : Names) (names : AreNames 
         bin_value v op.And (value_word size d) (word_not (one_bit size s)) (value_of size d a) rest value (not_value v (one_bit size s) (2 ^ index) one_is),
         omega (arith, less, is_word),
         and_mod (value_of size d a) rest (bits_of size)
-        ∙ ap (bit_and (value_of size d a % 2 ^ bits_of size)) (all_but_one size (2 ^ index) one_fits)
-        ∙ sym (and_mod (value_of size d a) (2 ^ bits_of size - 1 - 2 ^ index) (bits_of size)),
+            ∙ ap (bit_and (value_of size d a % 2 ^ bits_of size)) (all_but_one size (2 ^ index) one_fits)
+            ∙ sym (and_mod (value_of size d a) (2 ^ bits_of size - 1 - 2 ^ index) (bits_of size)),
       )
   bit_is Btc = (
     bit_xor (value_of size d a) (2 ^ index),

@@ -104,7 +104,7 @@ module _ (size : Size) (s : Seg) (next : ℕ) (w : World) (flags : Flags) (names
       let x : ℕ = loaded source in (
         record u { mem = store w.mem target (bytes_of (width_of size)) x },
         load_runs (name.T 0) (width_of size) (source_word s) source (source_is s w.names names)
-        (store_runs (width_of size) (reg 7) (temp 0) target x (name_value u.names (name.Reg 7)) (name_value u.names (name.T 0)) (none_run _)),
+            (store_runs (width_of size) (reg 7) (temp 0) target x (name_value u.names (name.Reg 7)) (name_value u.names (name.T 0)) (none_run _)),
         record {
           names = source_names;
           regs = refl;
@@ -180,7 +180,7 @@ module _ (size : Size) (s : Seg) (next : ℕ) (w : World) (flags : Flags) (names
       (names_set with_source.names (name.T 1) y source_names (loaded_word target)) (refl, refl) in (
         t,
         load_runs (name.T 0) (width_of size) (source_word s) source (source_is s w.names names)
-        (load_runs (name.T 1) (width_of size) (reg 7) target (name_value with_source.names (name.Reg 7)) runs),
+            (load_runs (name.T 1) (width_of size) (reg 7) target (name_value with_source.names (name.Reg 7)) runs),
         reached x y x y u t (loaded_low source) (loaded_low target) refl refl refl refl refl refl c (round_step Cmps size s next w flags) refl,
       )
 

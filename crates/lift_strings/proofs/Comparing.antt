@@ -80,7 +80,7 @@ is_size size.W = inr (inr refl)
 
 -- Two words have values in all names of which something holds that flags don't touch.
 module _ (s : Size) (e g : CExpr) (x y : ℕ) (x_fits : x < 2 ^ 32) (y_fits : y < 2 ^ 32) (P : Names → Type 0) (stable : (v : Names) (n k : ℕ) → P v → P (with_name v (name.Flag n) k))
-  (first : (v : Names) → P v → word_of e v ≡ Some x) (second : (v : Names) → P v → word_of g v ≡ Some y) where
+    (first : (v : Names) → P v → word_of e v ≡ Some x) (second : (v : Names) → P v → word_of g v ≡ Some y) where
   abbrev words : AluLift
   words = alu_words alu.Cmp (bits_of s) e g
 

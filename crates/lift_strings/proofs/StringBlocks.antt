@@ -72,7 +72,7 @@ round_reaches f size r s next w flags i h =
     let (t, count, at_count) = count_reaches r (whole_round f size (round_step f size s next w flags)) w x at_target in (
       t,
       runs_append (body_stmts f size s) (step_stmts f size r) body
-      (runs_append (where_so (steps_source f) (raises size 6)) _ source (runs_append (where_so (steps_target f) (raises size 7)) (where_so (repeats r) counts_down) target count)),
+          (runs_append (where_so (steps_source f) (raises size 6)) _ source (runs_append (where_so (steps_target f) (raises size 7)) (where_so (repeats r) counts_down) target count)),
       at_count,
     )
 

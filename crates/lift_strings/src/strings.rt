@@ -28,7 +28,9 @@ use x86_inst::{AluOp, Inst, Rep, Seg, Size, StrOp};
 
 // The registers of strings: ECX, ESI and EDI.
 const COUNT: u8 = 1;
+
 const SOURCE: u8 = 6;
+
 const TARGET: u8 = 7;
 
 // The address of the source: ESI with the segment's base.
@@ -62,11 +64,7 @@ fn push_source_read(
 ) -> Result<(), AllocError>
     ensures { OnOk result (stmts.new.items ≡ stmts.old.items ++ stmt.Load (T 0) (width_by size) (source_word_of seg) ∷ []) }
 {
-    stmts.push(Stmt::Load(
-        Name::T(0),
-        width_of(size),
-        source_word(alloc, seg)?,
-    ))?;
+    stmts.push(Stmt::Load(Name::T(0), width_of(size), source_word(alloc, seg)?))?;
     Ok(())
 }
 
@@ -87,12 +85,7 @@ fn push_target_store(stmts: &mut Vec<Stmt>, size: Size, e: Expr) -> Result<(), A
 }
 
 // MOVS.
-fn push_move(
-    alloc: Global,
-    stmts: &mut Vec<Stmt>,
-    size: Size,
-    seg: Seg,
-) -> Result<(), AllocError>
+fn push_move(alloc: Global, stmts: &mut Vec<Stmt>, size: Size, seg: Seg) -> Result<(), AllocError>
     ensures { OnOk result (stmts.new.items ≡ stmts.old.items ++ body_stmts op.Movs size seg) }
 {
     push_source_read(alloc, stmts, size, seg)?;
@@ -100,12 +93,7 @@ fn push_move(
 }
 
 // LODS.
-fn push_fetch(
-    alloc: Global,
-    stmts: &mut Vec<Stmt>,
-    size: Size,
-    seg: Seg,
-) -> Result<(), AllocError>
+fn push_fetch(alloc: Global, stmts: &mut Vec<Stmt>, size: Size, seg: Seg) -> Result<(), AllocError>
     ensures { OnOk result (stmts.new.items ≡ stmts.old.items ++ body_stmts op.Lods size seg) }
 {
     push_source_read(alloc, stmts, size, seg)?;
@@ -128,12 +116,7 @@ fn push_comparison(
 }
 
 // SCAS.
-fn push_search(
-    alloc: Global,
-    stmts: &mut Vec<Stmt>,
-    size: Size,
-    seg: Seg,
-) -> Result<(), AllocError>
+fn push_search(alloc: Global, stmts: &mut Vec<Stmt>, size: Size, seg: Seg) -> Result<(), AllocError>
     ensures { OnOk result (stmts.new.items ≡ stmts.old.items ++ body_stmts op.Scas size seg) }
 {
     push_target_read(stmts, size, 0)?;
@@ -196,10 +179,7 @@ fn push_count(alloc: Global, stmts: &mut Vec<Stmt>, counts: bool) -> Result<(), 
     ensures { OnOk result (stmts.new.items ≡ stmts.old.items ++ where_so counts counts_down) }
 {
     if counts {
-        stmts.push(Stmt::Set(
-            Name::Reg(COUNT),
-            bin(alloc, Bin::Sub, reg(COUNT), num(1))?,
-        ))?;
+        stmts.push(Stmt::Set(Name::Reg(COUNT), bin(alloc, Bin::Sub, reg(COUNT), num(1))?))?;
         Ok(())
     } else {
         Ok(())
