@@ -1,6 +1,6 @@
 -- The block that each instruction is lifted to. The code gives exactly these, and of these it is proved that they are the
 -- instruction's. The local t0 has the word that is read, t2 the result, and t3 another word.
-use Rattle.std.specs.Prelude.{ℕ, ◌+◌, ◌%◌, ◌^◌, Bool, true, false, if◌then◌else◌, List, [], ◌∷◌, ◌++◌, not}
+use Rattle.std.specs.Prelude.{ℕ, ◌+◌, ◌%◌, ◌^◌, Bool, if◌then◌else◌, List, [], ◌∷◌, ◌++◌, not}
 use Rattle.dream_words.specs.declared.machine.Name.TheVariants.{Reg, Flag, T}
 use Rattle.x86_inst.specs.declared.Inst.{Inst}
 use Rattle.x86_inst.specs.declared.Inst.TheVariants as i

@@ -29,7 +29,7 @@ pub fn lift(alloc: Global, i: &Inst, at: u32, next: u32) -> Result<Vec<Block>, A
     ensures { IfOk result (λ blocks. HasSpelling i.now → AreBlocksOf i.now at next blocks.items) }
 {
     match lift_wide(alloc, i, at, next)? {
-        Some(b) => with_test(alloc, i, at, b),
+        Some(b) => Ok(with_test(alloc, i, at, b)?),
         None => {
             let b = block(alloc, *i, at, next)?;
             Ok(Vec::from_array(alloc, [b])?)

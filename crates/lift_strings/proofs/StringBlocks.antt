@@ -201,11 +201,11 @@ pub string_blocks : (f : StrOp) (size : Size) (r : Rep) (s : Seg) (at next : ℕ
 string_blocks f size rep.No s at next h =
     goes_blocks (i.Str f size rep.No s) at next (body_stmts f size s ++ step_stmts f size rep.No) refl refl refl tt (round_fit f size rep.No s) (string_goes f size s next)
 string_blocks f size rep.Rep s at next h =
-    two_blocks (i.Str f size rep.Rep s) at next (round_block at f size rep.Rep s) refl refl refl (round_fit f size rep.Rep s) refl refl refl refl ((refl, refl), tt) refl
+    two_blocks (i.Str f size rep.Rep s) at next (round_block at f size rep.Rep s) refl refl refl (round_fit f size rep.Rep s) refl refl refl refl ((refl, refl), refl) refl
     (λ w flags i g. string_does (nat_eq (w.names (name.Reg 1)) 0) rep.Rep at f size s next w flags i g refl (spelled_may_repeat f size rep.Rep s h))
 string_blocks f size rep.Repe s at next h =
-    two_blocks (i.Str f size rep.Repe s) at next (round_block at f size rep.Repe s) refl refl refl (round_fit f size rep.Repe s) refl set_cond_fit.safe (fit_cond 2 (flag_set 2) (lit≤ tt) set_cond_fit) refl ((refl, refl), tt) refl
+    two_blocks (i.Str f size rep.Repe s) at next (round_block at f size rep.Repe s) refl refl refl (round_fit f size rep.Repe s) refl set_cond_fit.safe (fit_cond 2 (flag_set 2) (lit≤ tt) set_cond_fit) refl ((refl, refl), (refl, refl)) refl
     (λ w flags i g. string_does (nat_eq (w.names (name.Reg 1)) 0) rep.Repe at f size s next w flags i g refl (spelled_may_repeat f size rep.Repe s h))
 string_blocks f size rep.Repne s at next h =
-    two_blocks (i.Str f size rep.Repne s) at next (round_block at f size rep.Repne s) refl refl refl (round_fit f size rep.Repne s) refl clear_cond_fit.safe (fit_cond 2 (flag_clear 2) (lit≤ tt) clear_cond_fit) refl ((refl, refl), tt) refl
+    two_blocks (i.Str f size rep.Repne s) at next (round_block at f size rep.Repne s) refl refl refl (round_fit f size rep.Repne s) refl clear_cond_fit.safe (fit_cond 2 (flag_clear 2) (lit≤ tt) clear_cond_fit) refl ((refl, refl), (refl, refl)) refl
     (λ w flags i g. string_does (nat_eq (w.names (name.Reg 1)) 0) rep.Repne at f size s next w flags i g refl (spelled_may_repeat f size rep.Repne s h))
