@@ -1,6 +1,6 @@
 -- The block that each instruction is lifted to. The code gives exactly these, and of these it is proved that they are the
 -- instruction's. The local t0 has the word that is read, t2 the result, and t3 another word.
-use Rattle.std.specs.Prelude.{ℕ, ◌+◌, ◌%◌, ◌^◌, Bool, true, false, if◌then◌else◌, List, [], ◌∷◌, ◌++◌}
+use Rattle.std.specs.Prelude.{ℕ, ◌+◌, ◌%◌, ◌^◌, Bool, if◌then◌else◌, List, [], ◌∷◌, ◌++◌, not}
 use Rattle.dream_words.specs.declared.machine.Name.TheVariants.{Reg, Flag, T}
 use Rattle.x86_inst.specs.declared.Inst.{Inst}
 use Rattle.x86_inst.specs.declared.Inst.TheVariants as i
@@ -28,6 +28,7 @@ use Rattle.micro_ir.specs.declared.flow.Block.{Block}
 use Rattle.lift_parts.specs.Parts.{reg, temp, raw_word, value_word, address_word, reads, pair_reads, writes, pushes}
 use Rattle.lift_alu.specs.Words.{alu_words, cond_words, flag_clear}
 use Rattle.lift_blocks.specs.Ends.{goes_on, branches, returns}
+use Rattle.lift_wide.specs.Wide.{is_wide}
 use Rattle.lift_blocks.specs.Flags.{sets_but_carry, sets_flags, computes}
 use Rattle.lift_blocks.specs.Extended.{extended}
 
@@ -182,15 +183,4 @@ block_of _ at next = returns at []
 
 -- the instruction is none of those whose blocks are made elsewhere: products, quotients, shifts, bits and strings
 abbrev pub is_plain : Inst → Bool
-is_plain (i.Mul size s) = false
-is_plain (i.ImulWide size s) = false
-is_plain (i.Imul2 size d s) = false
-is_plain (i.Imul3 size d s k) = false
-is_plain (i.Div size s) = false
-is_plain (i.Idiv size s) = false
-is_plain (i.Shift op size d n) = false
-is_plain (i.DShift left d g n) = false
-is_plain (i.Bit op size d s) = false
-is_plain (i.Scan up size d s tz) = false
-is_plain (i.Str op size r s) = false
-is_plain _ = true
+is_plain x = not (is_wide x)

@@ -6,28 +6,35 @@
 mod control;
 mod operations;
 mod pushes;
+mod rounds;
 mod transfers;
 
 ghost use Rattle.std.specs.Prelude.{◌≡◌, IfOk, true};
-ghost use Rattle.lift.specs.Blocks.{block_of, is_plain};
+ghost use Rattle.lift.specs.Blocks.{block_of};
 ghost use Rattle.lift.specs.Given.{leaves_bare, has_words};
 ghost use Rattle.lift_parts.specs.Lifted.{AreBlocksOf};
 ghost use Rattle.x86_formed.specs.Formed.{HasSpelling};
 
+use crate::rounds::with_test;
 use lift_blocks::{goes_on, nothing};
+use lift_wide::lift_wide;
 use micro_ir::Block;
 use std::alloc::{AllocError, Global};
 use x86_inst::Inst;
 
-/// The blocks of an instruction at an address, with the next one. It is no product, quotient, shift, test of bits or string
-/// instruction, and if it is a jump by a word, then through a bare absolute address.
+/// The blocks of an instruction at an address, with the next one. If it is a jump by a word, then through a bare absolute
+/// address.
 pub fn lift(alloc: Global, i: &Inst, at: u32, next: u32) -> Result<Vec<Block>, AllocError>
-    requires plain { is_plain i.now ≡ true }
     requires leaves { leaves_bare i.now ≡ true }
     ensures { IfOk result (λ blocks. HasSpelling i.now → AreBlocksOf i.now at next blocks.items) }
 {
-    let b = block(alloc, *i, at, next)?;
-    Ok(Vec::from_array(alloc, [b])?)
+    match lift_wide(alloc, i, at, next)? {
+        Some(b) => Ok(with_test(alloc, i, at, b)?),
+        None => {
+            let b = block(alloc, *i, at, next)?;
+            Ok(Vec::from_array(alloc, [b])?)
+        }
+    }
 }
 
 // The block of a plain instruction. Of one that isn't plain it has nothing.

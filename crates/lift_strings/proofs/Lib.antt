@@ -1,0 +1,11 @@
+pub mod BitValues
+pub mod BitGoes
+pub mod Fitting
+pub mod BitBlocks
+pub mod Reaching
+pub mod Comparing
+pub mod Bodies
+pub mod Repeating
+pub mod RoundFit
+pub mod TwoBlocks
+pub mod StringBlocks

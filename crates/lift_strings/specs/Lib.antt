@@ -1,0 +1,2 @@
+pub mod BitForms
+pub mod Rounds

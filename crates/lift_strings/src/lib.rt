@@ -1,0 +1,10 @@
+//! The blocks of the instructions of bits and strings.
+//! Given are an instruction's operation, operands and address.
+//! Promised is a block that has its effect; of a repeated string instruction the round, before which ECX is tested.
+#![tactic(auto)]
+
+mod bits;
+mod strings;
+
+pub use bits::{bit, scan};
+pub use strings::{ecx_test, string};
