@@ -1,5 +1,7 @@
 mod Joining
 mod Placing
+mod Whole
+mod Outsiders
 pub mod Ends
 pub mod Simulates
 pub mod Frozen

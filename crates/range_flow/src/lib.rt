@@ -4,6 +4,7 @@
 #![tactic(auto)]
 
 mod assembly;
+mod discovered;
 mod first_nodes;
 mod laws;
 mod lifted;
@@ -13,5 +14,6 @@ mod places;
 mod piece;
 mod successors;
 
+pub use discovered::flow_of;
 pub use laws::{flow_is_given, flows_agree, planned_flows_agree};
 pub use piece::FlowPiece;
