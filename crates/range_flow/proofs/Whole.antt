@@ -1,6 +1,7 @@
 -- The code of a range of which no place is named, and what begins at the places that are reached.
-use Rattle.std.proofs.Common.{◌≡◌, ℕ, zero, suc, ◌+◌, ◌-◌, ◌^◌, ◌<◌, ◌≤◌, min, Bool, true, false, nat_eq, nat_lt, if◌then◌else◌, List, length, take, drop, Option, Some, None, refl, sym, ap, ◌∙◌, subst, arith, add-zero}
+use Rattle.std.proofs.Common.{◌≡◌, ℕ, zero, suc, ◌+◌, ◌-◌, ◌^◌, ◌<◌, ◌≤◌, min, Bool, true, false, nat_eq, nat_lt, if◌then◌else◌, List, ◌∷◌, length, take, drop, Option, Some, None, refl, sym, ap, ◌∙◌, subst, arith, add-zero}
 use Rattle.std.specs.Prelude.{All, Contains}
+use Rattle.std.specs.List.{concat}
 use Rattle.std.specs.Option.{option_map}
 use Rattle.std.proofs.lemmas.Bool.Decides.{nat_tests}
 use Rattle.elf_image.specs.declared.image.Segment.{Segment}
@@ -18,7 +19,7 @@ use Rattle.graph_order.specs.Graph.{Digraph}
 use Rattle.flow_graph.specs.declared.place.Cause.TheVariants as cause
 use Rattle.flow_graph.specs.Reach.{Reaches}
 use Rattle.flow_graph.specs.Place.{first_unfrozen, unless_frozen, or_last, unbacked, range_place, place_of, HasNoPlace}
-use Rattle.flow_graph.specs.Discovery.{IsDiscovered}
+use Rattle.flow_graph.specs.Discovery.{firsts, IsDiscovered}
 use Rattle.flow_graph.proofs.Firsts.{distinct_firsts, few_in_row}
 use Rattle.flow_graph.proofs.Walked.{has_contains, reached_bounds}
 use Rattle.flow_graph.proofs.Reading.{inside_at, code_at}
@@ -57,9 +58,10 @@ all_frozen m a (suc k) h = at (frozen_byte m a) h (all_frozen m (a + 1) k)
 
 pub whole_of : (m : List Segment) (r : Range) → range_place m r ≡ None → IsWhole m r
 whole_of m r h =
-    let a = else_none (nat_eq r.size 0) _ _ h in
-    let b = else_none (nat_lt 65536 r.size) _ _ a.1 in
-    let c = none_last r _ (none_mapped _ (unbacked m r) b.1) in
+    let rest = if nat_lt 65536 r.size then Some (place_of r.entry cause.RangeTooLarge) else option_map (λ a. place_of a cause.RangeUnbacked) (unbacked m r) in
+    let a = else_none (nat_eq r.size 0) (place_of r.entry cause.RangeEmpty) rest h in
+    let b = else_none (nat_lt 65536 r.size) (place_of r.entry cause.RangeTooLarge) (option_map (λ a. place_of a cause.RangeUnbacked) (unbacked m r)) a.1 in
+    let c = none_last r (first_unfrozen m r.entry (min r.size (2 ^ 32 - r.entry))) (none_mapped (λ a. place_of a cause.RangeUnbacked) (unbacked m r) b.1) in
     let some : 0 < r.size = (let e = a.0 in grind (arith, nat_tests)) in
     let few : r.size ≤ 65536 = (let e = b.0 in grind (arith, nat_tests)) in
     let fits : r.entry + r.size ≤ 2 ^ 32 = (let e = c.1 in grind (arith, nat_tests)) in
@@ -124,5 +126,5 @@ module _ (m : List Segment) (r : Range) (places : List ℕ) (g : Digraph) (n : H
   few_places =
       let w = whole_of m r n.range in
       let le : length places ≤ r.size = subst (λ ks. length ks ≤ r.size) d.order
-      (few_in_row r.entry r.size _ (distinct_firsts _) (λ a h. place_bounds a (subst (λ ks. Contains ks a) d.order (has_contains _ a h)))) in
+      (few_in_row r.entry r.size (firsts (r.entry ∷ concat d.lists)) (distinct_firsts (r.entry ∷ concat d.lists)) (λ a h. place_bounds a (subst (λ ks. Contains ks a) d.order (has_contains (firsts (r.entry ∷ concat d.lists)) a h)))) in
       omega (arith, le, w.few)
