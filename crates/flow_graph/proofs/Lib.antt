@@ -1,0 +1,5 @@
+mod Frozen
+mod Beginning
+pub mod Firsts
+pub mod OnePlaces
+pub mod Walked

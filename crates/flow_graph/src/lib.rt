@@ -1,0 +1,15 @@
+//! From a range of code to what of it is reached.
+//! Given are an image and a range of addresses in it.
+//! Promised is the graph of what is reached in the order of discovery, or the place that is outside the profile.
+#![tactic(auto)]
+
+mod discovery;
+mod laws;
+mod place;
+mod range_code;
+mod sites;
+mod walk;
+
+pub use discovery::discover;
+pub use laws::one_place;
+pub use place::{Cause, FlowFault, Found, Place};
