@@ -1,4 +1,5 @@
 pub mod Pieces
 pub mod Flow
 pub mod Plan
+pub mod Counts
 pub mod Laws

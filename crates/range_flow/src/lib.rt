@@ -6,5 +6,5 @@
 mod laws;
 mod piece;
 
-pub use laws::{flow_is_given, flows_agree, planned_flows_agree};
+pub use laws::{discovered_cover, flow_counts, flow_is_given, flows_agree, planned_flows_agree};
 pub use piece::FlowPiece;
