@@ -3,3 +3,4 @@ mod Beginning
 pub mod Firsts
 pub mod OnePlaces
 pub mod Walked
+pub mod Reading

@@ -1,8 +1,8 @@
 -- What a walk over a range has found, turn by turn.
-use Rattle.std.proofs.Common.{◌≡◌, ◌≢◌, ◌↔◌, ℕ, zero, suc, ◌+◌, ◌-◌, ◌%◌, ◌^◌, ◌<◌, ◌≤◌, ◌⊎◌, inl, inr, Bool, true, false, not, cond, ◌||◌, ◌&&◌, ◌==◌, nat_eq, nat_lt, if◌then◌else◌, List, [], ◌∷◌, ◌++◌, length, take, get_or, filter, fold, map, Option, Some, None, refl, sym, ap, ◌∙◌, subst, arith, append-nil, add-one, length-append}
+use Rattle.std.proofs.Common.{◌≡◌, ◌≢◌, ◌↔◌, ℕ, zero, suc, ◌+◌, ◌-◌, ◌%◌, ◌^◌, ◌<◌, ◌≤◌, ◌⊎◌, inl, inr, Bool, true, false, not, cond, ◌||◌, ◌&&◌, ◌==◌, nat_eq, nat_lt, nat_le, if◌then◌else◌, List, [], ◌∷◌, ◌++◌, length, take, get_or, filter, fold, map, Option, Some, None, refl, sym, ap, ◌∙◌, subst, arith, append-nil, add-one, length-append}
 use Rattle.std.specs.Prelude.{Contains, slice_get}
 use Rattle.std.specs.List.{concat, AllZip, IsDistinct}
-use Rattle.std.proofs.lemmas.Bool.{both_ways, cases_eq, cases_lt, eq-eqb, ne_eqb, lt-ltb, le-ltb, and_from}
+use Rattle.std.proofs.lemmas.Bool.{both_ways, cases_eq, cases_lt, eq-eqb, ne_eqb, lt-ltb, le-ltb, leb-true, ltb-true, and_parts}
 use Rattle.std.proofs.lemmas.Cmp.{nat_eq_equiv}
 use Rattle.std.proofs.lemmas.List.{map-append}
 use Rattle.std.proofs.lemmas.List.Folds.{concat-append}
@@ -90,6 +90,17 @@ zip_at R (a ∷ xs) [] k d e h lt = absurd h
 zip_at R (a ∷ xs) (b ∷ ys) zero d e h lt = (omega arith, h.0)
 zip_at R (a ∷ xs) (b ∷ ys) (suc k) d e h lt = let p = zip_at R xs ys k d e h.1 (omega (arith, lt)) in (omega (arith, p.0), p.1)
 
+zip_length : {A B : Type 0} (R : A → B → Type 0) (xs : List A) (ys : List B) → AllZip R xs ys → length xs ≡ length ys
+zip_length R [] [] h = refl
+zip_length R [] (b ∷ ys) h = absurd h
+zip_length R (a ∷ xs) [] h = absurd h
+zip_length R (a ∷ xs) (b ∷ ys) h = ap suc (zip_length R xs ys h.1)
+
+shorter : (n : ℕ) (ks : List ℕ) → length (take n ks) ≤ length ks
+shorter zero ks = omega arith
+shorter (suc n) [] = omega arith
+shorter (suc n) (k ∷ ks) = omega (arith, shorter n ks)
+
 -- one place more of a list that may grow
 one_more_of : (ks more : List ℕ) (n at : ℕ) → slice_get ks n ≡ Some at → take (n + 1) (ks ++ more) ≡ take n ks ++ at ∷ []
 one_more_of [] more n at h = cc
@@ -98,7 +109,9 @@ one_more_of (k ∷ ks) more zero at h = ap (λ x. x ∷ []) (λ i. some_of (h i)
     some_of : Option ℕ → ℕ
     some_of None = k
     some_of (Some x) = x
-one_more_of (k ∷ ks) more (suc n) at h = ap (λ l. k ∷ l) (one_more_of ks more n at h)
+one_more_of (k ∷ ks) more (suc n) at h =
+    let e : suc n + 1 ≡ suc (n + 1) = omega arith in
+    ap (λ j. take j (k ∷ (ks ++ more))) e ∙ ap (λ l. k ∷ l) (one_more_of ks more n at h)
 
 all_of : (ks : List ℕ) (n : ℕ) → slice_get ks n ≡ None → take n ks ≡ ks
 all_of [] zero h = refl
@@ -143,6 +156,26 @@ reaches_next m r at successors a h (list.begins i n b e) s =
     reach.along at n a i h b (has_contains (successors_of i at (next_of at n)) a p.0) p.1
 reaches_next m r at successors a h (list.none b e) s = absurd (none_has a (subst (λ l. Has l a) e s))
 
+-- and each of them is in the list
+next_there : (m : List Segment) (r : Range) (a n b : ℕ) (i : Inst) (successors : List ℕ) → BeginsAt m r a i n → Contains (successors_of i a (next_of a n)) b
+    → is_inside r b ≡ true → HasSuccessors m r a successors → Has successors b
+next_there m r a n b i successors begins s inside (list.begins j k other e) =
+    let p = one_at m r a i j n k begins other in
+    let same : successors_of i a (next_of a n) ≡ successors_of j a (next_of a k) = ap (λ x. successors_of x a (next_of a n)) p.1 ∙ ap (λ x. successors_of j a (next_of a x)) p.0 in
+    let there : Has (successors_of j a (next_of a k)) b = subst (λ l. Has l b) same (contains_has (successors_of i a (next_of a n)) b s) in
+    subst (λ l. Has l b) (sym e) (keeps (is_inside r) (successors_of j a (next_of a k)) b there inside)
+next_there m r a n b i successors begins s inside (list.none none e) = absurd (some_begins m r a i n begins none)
+
+-- what is reached is inside
+pub reached_inside : (m : List Segment) (r : Range) (a : ℕ) → Reaches m r a → is_inside r a ≡ true
+reached_inside m r _ (reach.entry h) = h
+reached_inside m r _ (reach.along a n b i h begins s inside) = inside
+
+pub reached_bounds : (m : List Segment) (r : Range) (a : ℕ) → Reaches m r a → (r.entry ≤ a) × (a < r.entry + r.size)
+reached_bounds m r a h =
+    let p = and_parts (nat_le r.entry a) (nat_lt a (r.entry + r.size)) (reached_inside m r a h) in
+    (leb-true r.entry a p.0, ltb-true a (r.entry + r.size) p.1)
+
 -- ---- the least place
 
 pub least_more : (m : List Segment) (r : Range) (passed : List ℕ) (named : Option Place) (at : ℕ) (why : Option Cause) → IsLeastOf m r passed named → CauseIs m r at why
@@ -182,7 +215,7 @@ module _ (m : List Segment) (r : Range) (keys : List ℕ) (lists : List (List �
     where
       length_map : (f : List ℕ → List ℕ) (xss : List (List ℕ)) → length (map f xss) ≡ length xss
       length_map f [] = refl
-      length_map f (xs ∷ xss) = ap (λ n. n + 1) (length_map f xss)
+      length_map f (xs ∷ xss) = ap suc (length_map f xss)
 
   -- a place that waits is reached
   pub waiting_reached : (n at : ℕ) → slice_get keys n ≡ Some at → Reaches m r at
@@ -224,3 +257,59 @@ module _ (m : List Segment) (r : Range) (keys : List ℕ) (lists : List (List �
             (subst (λ ks. IsLeastOf m r ks (least_with named at why)) (sym passed)
             (least_more m r (take (length w.addresses) keys) named at why w.least cause));
       }
+
+  -- what is found is inside
+  pub found_inside : (a : ℕ) → Has keys a → (r.entry ≤ a) × (a < r.entry + r.size)
+  found_inside a h = reached_bounds m r a (w.reached a h)
+
+  pub few_found : length keys ≤ r.size
+  few_found = few_in_row r.entry r.size keys (subst (IsDistinct nat_eq) w.order (distinct_firsts (r.entry ∷ concat w.addresses))) found_inside
+
+  pub fewer_lists : length lists ≤ length keys
+  fewer_lists =
+      let same : length (take (length w.addresses) keys) ≡ length w.addresses = zip_length (HasSuccessors m r) (take (length w.addresses) keys) w.addresses w.listed in
+      let short : length (take (length w.addresses) keys) ≤ length keys = shorter (length w.addresses) keys in
+      omega (arith, same, short, as_many)
+
+  -- ---- the end of a walk
+
+  -- a place that waits no more leaves a list for each place
+  module _ (over : slice_get keys (length lists) ≡ None) where
+    all_passed : take (length w.addresses) keys ≡ keys
+    all_passed = all_of keys (length w.addresses) (subst (λ n. slice_get keys n ≡ None) as_many over)
+
+    all_listed : AllZip (HasSuccessors m r) keys w.addresses
+    all_listed = subst (λ ks. AllZip (HasSuccessors m r) ks w.addresses) all_passed w.listed
+
+    -- what the place k leads to is found
+    leads : (k a n b : ℕ) (i : Inst) → k < length keys → get_or keys k a ≡ a → BeginsAt m r a i n → Contains (successors_of i a (next_of a n)) b → is_inside r b ≡ true → Has keys b
+    leads k a n b i lt at begins s inside =
+        let p = zip_at (HasSuccessors m r) keys w.addresses k a [] all_listed lt in
+        let here : HasSuccessors m r a (get_or w.addresses k []) = subst (λ x. HasSuccessors m r x (get_or w.addresses k [])) at p.1 in
+        named_found b (in_concat w.addresses k b p.0 (next_there m r a n b i (get_or w.addresses k []) begins s inside here))
+
+    pub complete : (a : ℕ) → Reaches m r a → Has keys a
+    complete _ (reach.entry h) = subst (λ l. Has l r.entry) w.order (has_all (r.entry ∷ concat w.addresses) [] r.entry (has_left (r.entry ∷ []) (concat w.addresses) r.entry (has_one r.entry)))
+    complete _ (reach.along a n b i h begins s inside) =
+        let there = has_contains keys a (complete a h) in
+        leads there.0 a n b i there.1 there.2 begins s inside
+
+    pub discovered : (g : Digraph) → g ≡ record { entry = 0; succ = lists } → IsDiscovered m r keys g
+    discovered g is = record {
+      lists = w.addresses;
+      listed = all_listed;
+      order = w.order;
+      reached = λ a. (λ h. w.reached a (contains_has keys a h), λ h. has_contains keys a (complete a h));
+      graph = is ∙ ap (λ l. record { entry = 0; succ = l }) w.numbered;
+    }
+
+    pub no_place : range_place m r ≡ None → named ≡ None → HasNoPlace m r
+    no_place none is = record {
+      range = none;
+      reached = λ a c h cause. (subst (IsLeastOf m r keys) is (subst (λ ks. IsLeastOf m r ks named) all_passed w.least)) a c (complete a h) cause;
+    }
+
+    pub named_place : (p : Place) → range_place m r ≡ None → named ≡ Some p → NamedPlace m r p
+    named_place p none is =
+        let least : IsLeastOf m r keys (Some p) = subst (IsLeastOf m r keys) is (subst (λ ks. IsLeastOf m r ks named) all_passed w.least) in
+        rw none (record { reached = w.reached p.at least.0; has_cause = least.1; least = λ a c h cause. least.2 a c (complete a h) cause })

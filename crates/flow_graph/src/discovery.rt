@@ -6,7 +6,6 @@ ghost use Rattle.flow_graph.specs.Discovery.{IsDiscovered};
 
 use crate::place::{FlowFault, Found};
 use crate::range_code::range_code;
-use crate::sites::site_of;
 use crate::walk::Walk;
 use elf_image::{Image, Range};
 use std::alloc::Global;
@@ -24,8 +23,7 @@ pub fn discover(alloc: Global, m: &Image, r: &Range) -> Result<Found, FlowFault>
     let mut walk = Walk::new(alloc, r.entry)?;
     while let Some(at) = walk.waiting() {
         let decoded = decode(&code[(at - r.entry) as usize..]);
-        let site = site_of(alloc, *r, at, decoded)?;
-        walk.pass(alloc, at, &site)?;
+        walk.visit(alloc, *r, at, decoded)?;
     }
     walk.finish(alloc)
 }

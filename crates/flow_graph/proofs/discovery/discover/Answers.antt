@@ -1,0 +1,143 @@
+use Rattle.std.proofs.Common.{rules, ℕ, zero, suc, ◌≡◌, ◌++◌, ◌∷◌, length-append, Vec, Global, IfOk, OnOk, IfErr, Result, Ok, Err, ◌+◌, ◌-◌, ◌<◌, ◌≤◌, List, [], length, take, drop, map, length-drop, Option, Some, None, refl, sym, ap, subst, ◌∙◌, arith}
+use Rattle.std.proofs.lemmas.List.{length-map, take_all}
+use Rattle.elf_image.specs.declared.image.Segment.{Segment}
+use Rattle.elf_image.specs.declared.range.Range.{Range}
+use Rattle.graph_order.specs.declared.graph.NodeId.{NodeId}
+use Rattle.flow_graph.specs.declared.place.Place.{Place}
+use Rattle.flow_graph.specs.declared.place.Found.{Found}
+use Rattle.flow_graph.specs.declared.place.FlowFault.{FlowFault}
+use Rattle.flow_graph.specs.declared.place.FlowFault.TheVariants as fault
+use Rattle.flow_graph.specs.Place.{range_place, HasNoPlace, HasNoText, Names}
+use Rattle.flow_graph.specs.Discovery.{IsDiscovered}
+use Rattle.std.specs.Prelude.{slice_get}
+use Rattle.flow_graph.proofs.Frozen.{entry_inside}
+use Rattle.flow_graph.proofs.Walked.{IsWalked, begins_walk, waiting_reached, reached_bounds, few_found, fewer_lists, turn, discovered, no_place, named_place}
+use Rattle.flow_graph.proofs.Reading.{IsCode, decoded_at, decoded_successors, decoded_cause, few_successors}
+use Rattle.flow_graph.proofs.discovery.discover.Goals as goal
+
+-- a place that waits is inside
+bounds : (m : List Segment) (r : Range) (keys : List ℕ) (lists : List (List ℕ)) (named : Option Place) (n at : ℕ) → IsWalked m r keys lists named → Some at ≡ slice_get keys n
+    → (r.entry ≤ at) × (at < r.entry + r.size)
+bounds m r keys lists named n at w h = reached_bounds m r at (waiting_reached m r keys lists named w n at (sym h))
+
+same_rest : (slice code : List ℕ) (k : ℕ) → slice ≡ code → take (length slice - k) (drop k slice) ≡ drop k code
+same_rest slice code k e =
+    let whole : take (length slice - k) (drop k slice) ≡ drop k slice = take_all (length slice - k) (drop k slice) (omega (arith, length-drop k slice)) in
+    whole ∙ ap (drop k) e
+
+-- the lists in a vector of vectors
+abbrev inner : List (Vec NodeId Global) → List (List ℕ)
+inner ls = map (λ v. v.items) ls
+
+as_many : (ls : List (Vec NodeId Global)) → length (inner ls) ≡ length ls
+as_many ls = length-map ls (λ v. v.items)
+
+-- a turn makes one list more, and there are no more lists than places
+smaller : (size : ℕ) (keys : List ℕ) (old new : List (Vec NodeId Global)) (at : ℕ) (list : List ℕ) → length keys ≤ size → Some at ≡ slice_get keys (length old)
+    → inner new ≡ inner old ++ list ∷ [] → size - length new < size - length old
+smaller size keys old new at list few waits more =
+    let longer : length (inner new) ≡ length (inner old) + 1 = ap length more ∙ length-append (inner old) (list ∷ []) in
+    omega (arith, few, got keys (length old) at waits, longer, as_many new, as_many old)
+  where
+    got : (ks : List ℕ) (n at : ℕ) → Some at ≡ slice_get ks n → n < length ks
+    got [] n at h = absurd (let z : ⊥ = cc in z)
+    got (k ∷ ks) zero at h = omega arith
+    got (k ∷ ks) (suc n) at h = omega (arith, got ks n at h)
+
+-- ---- the end
+
+over : (keys : List ℕ) (ls : List (Vec NodeId Global)) → None ≡ slice_get keys (length ls) → slice_get keys (length (inner ls)) ≡ None
+over keys ls h = ap (slice_get keys) (as_many ls) ∙ sym h
+
+module _ (m : List Segment) (r : Range) (keys : List ℕ) (lists : List (List ℕ)) (named : Option Place) (w : IsWalked m r keys lists named) (h : slice_get keys (length lists) ≡ None) where
+  discovers : (res : Result Found FlowFault) → IfOk res (λ f. f.places.items ≡ keys) → IfOk res (λ f. f.graph ≡ record { entry = 0; succ = lists })
+      → IfOk res (λ f. IsDiscovered m r f.places.items f.graph)
+  discovers (Ok f) p g = subst (λ ks. IsDiscovered m r ks f.graph) (sym p) (discovered m r keys lists named w h f.graph g)
+  discovers (Err e) p g = tt
+
+  has_none : range_place m r ≡ None → (res : Result Found FlowFault) → OnOk res (named ≡ None) → OnOk res (HasNoPlace m r)
+  has_none none (Ok f) is = no_place m r keys lists named w h none is
+  has_none none (Err e) is = tt
+
+  is_named : range_place m r ≡ None → (res : Result Found FlowFault) → IfErr res (Names named) → IfErr res (HasNoText m r)
+  is_named none (Ok f) is = tt
+  is_named none (Err (fault.Outside p)) is = named_place m r keys lists named w h p none is
+  is_named none (Err fault.Memory) is = tt
+
+-- ---- the goals
+
+pub loop-at-init : goal.loop-at-init
+loop-at-init c =
+    let f = c.in_ok-code.ensures {u = tt} in
+    let w = c.in_ok-walk.ensures {u = tt} in
+    rw (w.places, w.lists, w.named) (begins_walk c.args.m.now c.args.r.now (entry_inside c.args.r.now f.some))
+
+pub overflow_sub-at : goal.overflow_sub-at
+overflow_sub-at c = (bounds c.args.m.now c.args.r.now c.loop-at.walk.places.keys _ c.loop-at.walk.named _ c.in-Some.at c.loop-at.invariant (c.in-Some.ensures {u = tt})).0
+
+pub slice_bounds-decode-count : goal.slice_bounds-decode-count
+slice_bounds-decode-count c =
+    let b = bounds c.args.m.now c.args.r.now c.loop-at.walk.places.keys _ c.loop-at.walk.named _ c.in-Some.at c.loop-at.invariant (c.in-Some.ensures {u = tt}) in
+    let f = c.in_ok-code.ensures {u = tt} in
+    omega (arith, b.0, b.1, ap length c.deref.ensures.value, f.len)
+
+pub slice_bounds-decode-start : goal.slice_bounds-decode-start
+slice_bounds-decode-start c =
+    let b = bounds c.args.m.now c.args.r.now c.loop-at.walk.places.keys _ c.loop-at.walk.named _ c.in-Some.at c.loop-at.invariant (c.in-Some.ensures {u = tt}) in
+    let f = c.in_ok-code.ensures {u = tt} in
+    let le : c.in-Some.at - c.args.r.now.entry ≤ length c.deref.result.now = omega (arith, b.0, b.1, ap length c.deref.ensures.value, f.len) in
+    search rules
+
+pub visit-requires : goal.visit-requires
+visit-requires c =
+    let f = c.in_ok-code.ensures {u = tt} in
+    omega (arith, f.few, few_found c.args.m.now c.args.r.now c.loop-at.walk.places.keys _ c.loop-at.walk.named c.loop-at.invariant, few_successors c.args.r.now c.in-Some.at c.decode-decoded.result)
+
+pub loop-at-smaller : goal.loop-at-smaller
+loop-at-smaller c =
+    let v = c.in_ok-visit.ensures {u = tt} in
+    let w = c.loop-at.invariant in
+    let r = c.args.r.now in
+    let keys = c.loop-at.walk.places.keys in
+    let few : length keys ≤ r.size = few_found c.args.m.now r keys _ c.loop-at.walk.named w in
+    smaller r.size keys c.loop-at.walk.lists.items c.visit.new.self.lists.items c.in-Some.at _ few (c.in-Some.ensures {u = tt}) v.lists
+
+pub loop-at-preserved : goal.loop-at-preserved
+loop-at-preserved c =
+    let f = c.in_ok-code.ensures {u = tt} in
+    let v = c.in_ok-visit.ensures {u = tt} in
+    let w = c.loop-at.invariant in
+    let m = c.args.m.now in
+    let r = c.args.r.now in
+    let keys = c.loop-at.walk.places.keys in
+    let at = c.in-Some.at in
+    let b = bounds m r keys _ c.loop-at.walk.named _ at w (c.in-Some.ensures {u = tt}) in
+    let d = decoded_at m r c.in_ok-code.code.items _ at c.decode-decoded.result (record { code_is = f.code; whole = f.len; fits = f.fits }) b.0 b.1
+        (same_rest c.deref.result.now c.in_ok-code.code.items (at - r.entry) c.deref.ensures.value) c.decode-decoded.ensures in
+    let waits : slice_get keys (length (inner c.loop-at.walk.lists.items)) ≡ Some at = ap (slice_get keys) (as_many c.loop-at.walk.lists.items) ∙ sym (c.in-Some.ensures {u = tt}) in
+    turn m r keys _ c.loop-at.walk.named w _ _ _ at _ _ waits (decoded_successors m r at c.decode-decoded.result d) (decoded_cause m r at c.decode-decoded.result d) v.places v.lists v.named
+
+pub finish-requires : goal.finish-requires
+finish-requires c =
+    let f = c.in_ok-code.ensures {u = tt} in
+    let w = c.loop-at.invariant in
+    omega (arith, f.few, few_found c.args.m.now c.args.r.now c.loop-at.walk.places.keys _ c.loop-at.walk.named w, fewer_lists c.args.m.now c.args.r.now c.loop-at.walk.places.keys _ c.loop-at.walk.named w,
+        as_many c.loop-at.walk.lists.items)
+
+pub returns-clause-discovered : goal.returns-clause-discovered
+returns-clause-discovered c =
+    let e = c.finish.ensures in
+    discovers c.args.m.now c.args.r.now c.loop-at.walk.places.keys _ c.loop-at.walk.named c.loop-at.invariant (over c.loop-at.walk.places.keys c.loop-at.walk.lists.items (c.in_default.ensures {u = tt}))
+    c.finish.result e.places e.graph
+
+pub returns-clause-no_place : goal.returns-clause-no_place
+returns-clause-no_place c =
+    let f = c.in_ok-code.ensures {u = tt} in
+    has_none c.args.m.now c.args.r.now c.loop-at.walk.places.keys _ c.loop-at.walk.named c.loop-at.invariant (over c.loop-at.walk.places.keys c.loop-at.walk.lists.items (c.in_default.ensures {u = tt}))
+    f.frozen c.finish.result c.finish.ensures.none
+
+pub returns-clause-err : goal.returns-clause-err
+returns-clause-err c =
+    let f = c.in_ok-code.ensures {u = tt} in
+    is_named c.args.m.now c.args.r.now c.loop-at.walk.places.keys _ c.loop-at.walk.named c.loop-at.invariant (over c.loop-at.walk.places.keys c.loop-at.walk.lists.items (c.in_default.ensures {u = tt}))
+    f.frozen c.finish.result c.finish.ensures.err
