@@ -7,7 +7,6 @@ use Rattle.std.proofs.lemmas.List.Elements.{All-contains}
 use Rattle.std.proofs.lemmas.List.Recursion.{is_count_by}
 use Rattle.elf_image.specs.declared.image.Segment.{Segment}
 use Rattle.elf_image.specs.declared.range.Range.{Range}
-use Rattle.elf_image.specs.Range.{is_inside}
 use Rattle.x86_inst.specs.declared.Inst.{Inst}
 use Rattle.x86_model.specs.Successors.{successors_of, stores as is_store, asks as is_ask}
 use Rattle.machine.specs.Code.{BeginsAt}
@@ -16,13 +15,13 @@ use Rattle.micro_ir.specs.declared.flow.Flow.{Flow}
 use Rattle.micro_ir.specs.declared.flow.End.{End as BlockEnd}
 use Rattle.micro_ir.specs.declared.flow.End.TheVariants as end
 use Rattle.micro_ir.specs.Laws.{moved_end}
-use Rattle.micro_ir.specs.Counts.{stores_of_stmts, stores_of, calls_of_stmts, calls_of_end, calls_of}
+use Rattle.micro_ir.specs.Counts.{stores_of_stmts, stores_of, calls_of_end, calls_of}
 use Rattle.lift_parts.specs.Lifted.{once}
 use Rattle.flow_graph.proofs.OnePlaces.{one_at}
 use Rattle.range_flow.specs.declared.piece.FlowPiece.{FlowPiece}
 use Rattle.range_flow.specs.Pieces.{IsPieceOf, IsLeaveTo, addresses_of, flow_node, moved_block, blocks_from}
-use Rattle.range_flow.specs.Flow.{IsFlowOf, IsOutsideOf}
-use Rattle.range_flow.specs.Counts.{StandsAt, IsNextOutside, HasCounts}
+use Rattle.range_flow.specs.Flow.{IsFlowOf}
+use Rattle.range_flow.specs.Counts.{StandsAt, IsNextOutside}
 use Rattle.range_flow.specs.Laws.{FlowCounts}
 use Rattle.range_flow.proofs.Members.{contains_here, contains_later, contains_mapped, mapped}
 
@@ -142,10 +141,10 @@ module _ (m : List Segment) (r : Range) (places : List ℕ) (f : Flow) (is : IsF
       let i = instruction q.0 q.1 in
       let same = one_at m r q.0.at o.inst i.inst o.size i.size (subst (λ b. BeginsAt m r b o.inst o.size) (sym q.2) o.begins) i.begins in
       let list : successors_of o.inst o.place ((o.place + o.size) % 2 ^ 32) ≡ q.0.successors =
-          ap (λ b. successors_of o.inst b ((b + o.size) % 2 ^ 32)) (sym q.2)
-          ∙ ap (λ n. successors_of o.inst q.0.at ((q.0.at + n) % 2 ^ 32)) same.0
-          ∙ ap (λ x. successors_of x q.0.at ((q.0.at + i.size) % 2 ^ 32)) same.1
-          ∙ sym i.successors in
+      ap (λ b. successors_of o.inst b ((b + o.size) % 2 ^ 32)) (sym q.2)
+      ∙ ap (λ n. successors_of o.inst q.0.at ((q.0.at + n) % 2 ^ 32)) same.0
+      ∙ ap (λ x. successors_of x q.0.at ((q.0.at + i.size) % 2 ^ 32)) same.1
+      ∙ sym i.successors in
       is.complete a (o.away, q.0, q.1, subst (λ l. Contains l a) list o.leads)
 
 pub flow_counts : FlowCounts

@@ -1,5 +1,5 @@
 -- What discovery finds covers the range, and is few.
-use Rattle.std.proofs.Common.{◌≡◌, ℕ, ◌+◌, ◌%◌, ◌^◌, ◌<◌, ◌≤◌, Bool, true, false, cond, ◌==◌, nat_eq, nat_le, nat_lt, List, [], ◌∷◌, ◌++◌, length, Option, Some, None, refl, sym, ap, ◌∙◌, subst, arith}
+use Rattle.std.proofs.Common.{◌≡◌, ℕ, ◌+◌, ◌<◌, ◌≤◌, Bool, true, false, cond, ◌==◌, nat_eq, nat_le, nat_lt, List, [], ◌∷◌, length, Option, Some, None, refl, ap, subst, arith}
 use Rattle.std.specs.Prelude.{slice_get, Contains}
 use Rattle.std.specs.List.{IsDistinct, concat}
 use Rattle.std.specs.Option.{option_map}
@@ -9,16 +9,12 @@ use Rattle.std.proofs.lemmas.Map.Made.{is_member-Decides}
 use Rattle.elf_image.specs.declared.image.Segment.{Segment}
 use Rattle.elf_image.specs.declared.range.Range.{Range}
 use Rattle.elf_image.specs.Range.{is_inside}
-use Rattle.x86_inst.specs.declared.Inst.{Inst}
-use Rattle.graph_order.specs.Graph.{Digraph}
 use Rattle.flow_graph.specs.declared.place.Place.{Place}
 use Rattle.flow_graph.specs.declared.place.Cause.TheVariants as cause
 use Rattle.flow_graph.specs.Reach as reach
 use Rattle.flow_graph.specs.Reach.{Reaches}
-use Rattle.flow_graph.specs.Place.{place_of, unbacked, range_place, HasNoPlace}
-use Rattle.flow_graph.specs.Discovery.{firsts, IsDiscovered}
-use Rattle.flow_graph.proofs.Firsts.{Has, Grows, grows_all, distinct_firsts, few_in_row}
-use Rattle.range_flow.specs.Flow.{AreCovering}
+use Rattle.flow_graph.specs.Place.{place_of, unbacked, range_place}
+use Rattle.flow_graph.proofs.Firsts.{Grows, grows_all, distinct_firsts, few_in_row}
 use Rattle.range_flow.specs.Laws.{DiscoveredCover}
 
 reached_inside : (m : List Segment) (r : Range) (a : ℕ) → Reaches m r a → is_inside r a ≡ true
