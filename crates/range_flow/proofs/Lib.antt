@@ -11,4 +11,4 @@ pub mod Few
 pub mod Joined
 pub mod Given
 pub mod Counted
-pub mod Discovered
+pub mod FoundPlaces
