@@ -14,3 +14,5 @@ pub mod RangePlan
 pub mod Few
 pub mod Joined
 pub mod Given
+pub mod Counted
+pub mod FoundPlaces
