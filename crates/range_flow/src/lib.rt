@@ -15,7 +15,5 @@ mod places;
 mod successors;
 
 pub use discovered::flow_of;
-pub use laws::{
-    discovered_cover, flow_counts, flow_is_given, flows_agree, planned_flows_agree,
-};
+pub use laws::{discovered_cover, flow_counts, flow_is_given, flows_agree, planned_flows_agree};
 pub use piece::FlowPiece;

@@ -53,5 +53,5 @@ returns c =
     (c.in_ok-push_leaves.ensures {u = tt}).pieces ∙ ap (λ ks. pieces_of all ++ map leave_piece ks) c.as_slice.ensures.keys in
     both_ok c.joined.result (λ f. f.blocks ≡ flow_blocks (pieces_of c.push_leaves.new.all.items)) (λ f. f.entry ≡ 0) (IsFlowOf m r places)
     (λ f blocks entry. is_flow m r places c.args.found.now.graph c.requires.no_place c.requires.discovered all keys (made.places ∙ c.deref-2.ensures.value) lifted members out.unique f
-        (blocks ∙ ap flow_blocks pieces) entry)
+    (blocks ∙ ap flow_blocks pieces) entry)
     c.joined.ensures.blocks c.joined.ensures.entry
