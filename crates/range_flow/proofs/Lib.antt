@@ -1,5 +1,7 @@
 mod Joining
 mod Placing
+mod Whole
+mod Outsiders
 pub mod Ends
 pub mod Simulates
 pub mod Frozen
@@ -12,3 +14,5 @@ pub mod RangePlan
 pub mod Few
 pub mod Joined
 pub mod Given
+pub mod Counted
+pub mod FoundPlaces

@@ -12,10 +12,15 @@ use Rattle.machine.specs.Run.{IsStart, machine_run, scene_of}
 use Rattle.micro_ir.specs.declared.flow.Flow.{Flow}
 use Rattle.micro_ir.specs.Run.{flow_run}
 use Rattle.micro_ir.specs.Rule.{IsGiven}
+use Rattle.micro_ir.specs.Counts.{stores_of, calls_of}
+use Rattle.graph_order.specs.Graph.{Digraph}
+use Rattle.flow_graph.specs.Place.{HasNoPlace}
+use Rattle.flow_graph.specs.Discovery.{IsDiscovered}
 use Rattle.range_flow.specs.declared.piece.FlowPiece.{FlowPiece}
 use Rattle.range_flow.specs.Pieces.{flow_blocks}
 use Rattle.range_flow.specs.Flow.{AreCovering, IsFlowOf}
 use Rattle.range_flow.specs.Plan.{IsPlan}
+use Rattle.range_flow.specs.Counts.{HasCounts}
 
 -- The flow of a plan agrees with the machine, from every start and with any answers.
 abbrev pub PlannedFlowsAgree : Type 0
@@ -32,3 +37,12 @@ FlowsAgree = (m : List Segment) (r : Range) (decoded : ℕ → Option (Inst × �
 -- The flow of at most 65,536 places may be given to what makes a tree of it.
 abbrev pub FlowIsGiven : Type 0
 FlowIsGiven = (m : List Segment) (r : Range) (places : List ℕ) (f : Flow) → AreCovering m r places → IsFlowOf m r places f → length places ≤ 2 ^ 16 → IsGiven f
+
+-- The flow has as many stores and calls as the range has stores and asks.
+abbrev pub FlowCounts : Type 0
+FlowCounts = (m : List Segment) (r : Range) (places : List ℕ) (f : Flow) → IsFlowOf m r places f → HasCounts m r places (stores_of f.blocks) (calls_of f.blocks)
+
+-- What discovery finds covers the range, and is few.
+abbrev pub DiscoveredCover : Type 0
+DiscoveredCover = (m : List Segment) (r : Range) (places : List ℕ) (g : Digraph) → IsDiscovered m r places g → HasNoPlace m r
+    → AreCovering m r places × (length places ≤ 2 ^ 16)

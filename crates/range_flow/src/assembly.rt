@@ -4,9 +4,9 @@ ghost use Rattle.std.specs.Prelude.{◌≡◌, ◌+◌, ◌++◌, ◌^◌, ◌<�
 ghost use Rattle.range_flow.specs.Pieces.{moved_block, flow_blocks};
 ghost use Rattle.range_flow.specs.Nodes.{first_by, node_by, pieces_of, total_of};
 
+use crate::first_nodes::FirstNodes;
 use crate::lifted::Lifted;
 use crate::nodes::{Nodes, push_blocks};
-use crate::first_nodes::FirstNodes;
 use graph_order::NodeId;
 use micro_ir::{Block, Flow};
 use sqlite_items::Items;

@@ -1,17 +1,19 @@
-//! The flow of a range: its blocks are those of the instructions that are reached.
-//! Given are the reached addresses of a range in an image.
-//! Promised is, as a law on the definitions, that the flow agrees with the machine.
+//! From what is discovered of a range to its flow: its blocks are those of the instructions that are reached.
+//! Given are an image, a range of addresses in it, and the places that discovery finds there.
+//! Promised is the flow of the range, and, as a law on the definitions, that it agrees with the machine.
 #![tactic(auto)]
 
 mod assembly;
+mod discovered;
 mod first_nodes;
 mod laws;
 mod lifted;
 mod nodes;
 mod outside;
-mod places;
 mod piece;
+mod places;
 mod successors;
 
-pub use laws::{flow_is_given, flows_agree, planned_flows_agree};
+pub use discovered::flow_of;
+pub use laws::{discovered_cover, flow_counts, flow_is_given, flows_agree, planned_flows_agree};
 pub use piece::FlowPiece;

@@ -8,12 +8,7 @@ use crate::lifted::{Lifted, leave_to, lifted_from};
 use std::alloc::{AllocError, Global};
 
 // What is made for one place.
-fn lifted_place(
-    alloc: Global,
-    code: &[u8],
-    entry: u32,
-    place: u32,
-) -> Result<Lifted, AllocError>
+fn lifted_place(alloc: Global, code: &[u8], entry: u32, place: u32) -> Result<Lifted, AllocError>
     requires { CanBeLifted code.now entry place }
     ensures lifted { IfOk result (IsLiftedIn code.now entry) }
     ensures here { IfOk result (λ l. l.at ≡ place) }
@@ -41,11 +36,7 @@ pub fn lifted_places(
 }
 
 /// Puts what leaves for each of some addresses at the end.
-pub fn push_leaves(
-    alloc: Global,
-    all: &mut Vec<Lifted>,
-    outside: &[u32],
-) -> Result<(), AllocError>
+pub fn push_leaves(alloc: Global, all: &mut Vec<Lifted>, outside: &[u32]) -> Result<(), AllocError>
     ensures pieces { OnOk result (pieces_of all.new.items ≡ pieces_of all.old.items ++ map leave_piece outside.now) }
     ensures total { OnOk result (total_of all.new.items ≡ total_of all.old.items + length outside.now) }
 {

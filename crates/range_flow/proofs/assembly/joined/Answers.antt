@@ -16,7 +16,7 @@ loop-one-preserved c =
     let left = ap total_of steps.0 in (
       omega (arith, c.loop-one.invariant.0, len, left),
       one_more first done c.push_one.new.flow.items c.in-Some.one (into_iter_items c.next.new.self) (joined_from first 0 c.args.all.items) pushed
-      (ap (λ r. done ++ joined_from first (length done) r) (sym steps.0) ∙ c.loop-one.invariant.1),
+          (ap (λ r. done ++ joined_from first (length done) r) (sym steps.0) ∙ c.loop-one.invariant.1),
     )
 
 pub returns-clause-blocks : goal.returns-clause-blocks

@@ -8,4 +8,4 @@ abbrev pub invariant-loop-one : goal.invariant-loop-one
 invariant-loop-one l =
     (length l.blocks.items + total_of (into_iter_items l.one-iterator) ≡ total_of l.fn.all.items)
     × (l.blocks.items ++ joined_from (first_by l.firsts) (length l.blocks.items) (into_iter_items l.one-iterator)
-        ≡ joined_from (first_by l.firsts) 0 l.fn.all.items)
+    ≡ joined_from (first_by l.firsts) 0 l.fn.all.items)
