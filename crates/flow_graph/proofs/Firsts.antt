@@ -203,8 +203,8 @@ one_more old all keys new numbers i x n h lt at is num =
     let there : (a : ℕ) → Has (take i all) a → Has keys a = (λ a m. subst (λ l. Has l a) (sym h.keys_are) (has_all (take i all) old a m)) in
     let last : n ≡ number_in new x = num ∙ sym (number_new keys x) ∙ ap (λ l. number_in l x) (sym is) in
     let nums : numbers ++ n ∷ [] ≡ map (number_in new) (take i all ++ x ∷ []) =
-        ap (λ l. l ++ n ∷ []) (h.numbers_are ∙ sym (numbers_stay (take i all) keys new grows there))
-        ∙ ap (λ k. map (number_in new) (take i all) ++ k ∷ []) last ∙ sym (map-append (number_in new) (take i all) (x ∷ [])) in
+    ap (λ l. l ++ n ∷ []) (h.numbers_are ∙ sym (numbers_stay (take i all) keys new grows there))
+    ∙ ap (λ k. map (number_in new) (take i all) ++ k ∷ []) last ∙ sym (map-append (number_in new) (take i all) (x ∷ [])) in
     record {
       keys_are = grown ∙ ap (fold with_new old) (sym front);
       numbers_are = nums ∙ ap (map (number_in new)) (sym front);

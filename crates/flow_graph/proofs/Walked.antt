@@ -184,27 +184,41 @@ least_more m r passed None at None h k = λ a c there cause. elim (has_either pa
   | inl old ↦ h a c old cause
   | inr new ↦ k c (subst (λ x. HasCause m r x c) (only_one at a new) cause)
 ]
-least_more m r passed (Some p) at None h k = (has_left passed (at ∷ []) p.at h.0, h.1, λ a c there cause. elim (has_either passed (at ∷ []) a there) [
-  | inl old ↦ h.2 a c old cause
-  | inr new ↦ absurd (k c (subst (λ x. HasCause m r x c) (only_one at a new) cause))
-])
-least_more m r passed None at (Some why) h k = (has_right passed (at ∷ []) at (has_one at), k, λ a c there cause. elim (has_either passed (at ∷ []) a there) [
-  | inl old ↦ absurd (h a c old cause)
-  | inr new ↦ omega (arith, only_one at a new)
-])
+least_more m r passed (Some p) at None h k = (
+  has_left passed (at ∷ []) p.at h.0,
+  h.1,
+  λ a c there cause. elim (has_either passed (at ∷ []) a there) [
+    | inl old ↦ h.2 a c old cause
+    | inr new ↦ absurd (k c (subst (λ x. HasCause m r x c) (only_one at a new) cause))
+  ],
+)
+least_more m r passed None at (Some why) h k = (
+  has_right passed (at ∷ []) at (has_one at),
+  k,
+  λ a c there cause. elim (has_either passed (at ∷ []) a there) [
+    | inl old ↦ absurd (h a c old cause)
+    | inr new ↦ omega (arith, only_one at a new)
+  ],
+)
 least_more m r passed (Some p) at (Some why) h k = elim (cases_lt at p.at) [
   | inl lt ↦
-      subst (IsLeastOf m r (passed ++ at ∷ [])) (ap (λ b. if b then Some (place_of at why) else Some p) (sym (lt-ltb at p.at lt)))
-      (has_right passed (at ∷ []) at (has_one at), k, λ a c there cause. elim (has_either passed (at ∷ []) a there) [
-        | inl old ↦ omega (arith, lt, h.2 a c old cause)
-        | inr new ↦ omega (arith, only_one at a new)
-      ])
+      subst (IsLeastOf m r (passed ++ at ∷ [])) (ap (λ b. if b then Some (place_of at why) else Some p) (sym (lt-ltb at p.at lt))) (
+        has_right passed (at ∷ []) at (has_one at),
+        k,
+        λ a c there cause. elim (has_either passed (at ∷ []) a there) [
+          | inl old ↦ omega (arith, lt, h.2 a c old cause)
+          | inr new ↦ omega (arith, only_one at a new)
+        ],
+      )
   | inr le ↦
-      subst (IsLeastOf m r (passed ++ at ∷ [])) (ap (λ b. if b then Some (place_of at why) else Some p) (sym (le-ltb at p.at le)))
-      (has_left passed (at ∷ []) p.at h.0, h.1, λ a c there cause. elim (has_either passed (at ∷ []) a there) [
-        | inl old ↦ h.2 a c old cause
-        | inr new ↦ omega (arith, le, only_one at a new)
-      ])
+      subst (IsLeastOf m r (passed ++ at ∷ [])) (ap (λ b. if b then Some (place_of at why) else Some p) (sym (le-ltb at p.at le))) (
+        has_left passed (at ∷ []) p.at h.0,
+        h.1,
+        λ a c there cause. elim (has_either passed (at ∷ []) a there) [
+          | inl old ↦ h.2 a c old cause
+          | inr new ↦ omega (arith, le, only_one at a new)
+        ],
+      )
 ]
 
 -- ---- a turn
@@ -239,7 +253,7 @@ module _ (m : List Segment) (r : Range) (keys : List ℕ) (lists : List (List �
       let waits' : slice_get keys (length w.addresses) ≡ Some at = subst (λ n. slice_get keys n ≡ Some at) as_many waits in
       let many : length (w.addresses ++ successors ∷ []) ≡ length w.addresses + 1 = omega (arith, length-append w.addresses (successors ∷ [])) in
       let passed : take (length (w.addresses ++ successors ∷ [])) new ≡ take (length w.addresses) keys ++ at ∷ [] =
-          ap (λ n. take n new) many ∙ ap (take (length w.addresses + 1)) grows.1 ∙ one_more_of keys grows.0 (length w.addresses) at waits' in
+      ap (λ n. take n new) many ∙ ap (take (length w.addresses + 1)) grows.1 ∙ one_more_of keys grows.0 (length w.addresses) at waits' in
       let joined : concat (w.addresses ++ successors ∷ []) ≡ concat w.addresses ++ successors = concat-append w.addresses (successors ∷ []) ∙ ap (λ l. concat w.addresses ++ l) (append-nil successors) in
       record {
         addresses = w.addresses ++ successors ∷ [];

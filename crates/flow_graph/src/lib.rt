@@ -8,6 +8,8 @@ mod laws;
 mod place;
 mod range_code;
 mod sites;
+#[cfg(test)]
+mod tests;
 mod walk;
 
 pub use discovery::discover;

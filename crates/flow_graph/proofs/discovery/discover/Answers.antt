@@ -113,7 +113,7 @@ loop-at-preserved c =
     let at = c.in-Some.at in
     let b = bounds m r keys _ c.loop-at.walk.named _ at w (c.in-Some.ensures {u = tt}) in
     let d = decoded_at m r c.in_ok-code.code.items _ at c.decode-decoded.result (record { code_is = f.code; whole = f.len; fits = f.fits }) b.0 b.1
-        (same_rest c.deref.result.now c.in_ok-code.code.items (at - r.entry) c.deref.ensures.value) c.decode-decoded.ensures in
+    (same_rest c.deref.result.now c.in_ok-code.code.items (at - r.entry) c.deref.ensures.value) c.decode-decoded.ensures in
     let waits : slice_get keys (length (inner c.loop-at.walk.lists.items)) ≡ Some at = ap (slice_get keys) (as_many c.loop-at.walk.lists.items) ∙ sym (c.in-Some.ensures {u = tt}) in
     turn m r keys _ c.loop-at.walk.named w _ _ _ at _ _ waits (decoded_successors m r at c.decode-decoded.result d) (decoded_cause m r at c.decode-decoded.result d) v.places v.lists v.named
 
@@ -121,8 +121,13 @@ pub finish-requires : goal.finish-requires
 finish-requires c =
     let f = c.in_ok-code.ensures {u = tt} in
     let w = c.loop-at.invariant in
-    omega (arith, f.few, few_found c.args.m.now c.args.r.now c.loop-at.walk.places.keys _ c.loop-at.walk.named w, fewer_lists c.args.m.now c.args.r.now c.loop-at.walk.places.keys _ c.loop-at.walk.named w,
-        as_many c.loop-at.walk.lists.items)
+    omega (
+      arith,
+      f.few,
+      few_found c.args.m.now c.args.r.now c.loop-at.walk.places.keys _ c.loop-at.walk.named w,
+      fewer_lists c.args.m.now c.args.r.now c.loop-at.walk.places.keys _ c.loop-at.walk.named w,
+      as_many c.loop-at.walk.lists.items,
+    )
 
 pub returns-clause-discovered : goal.returns-clause-discovered
 returns-clause-discovered c =
