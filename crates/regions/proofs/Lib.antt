@@ -15,3 +15,4 @@ mod Named
 mod Lines
 mod LineFormed
 mod Whole
+pub mod Stepping

@@ -12,7 +12,8 @@ use Rattle.guarded.specs.Formed.{Bodies, deepest_alone, tree_allowed, tree_bodie
 use Rattle.guarded.proofs.Induct.{Each}
 use Rattle.guarded.proofs.Layers.{allowed_layer, bodies_layer, uses_layer, count_layer}
 use Rattle.regions.specs.Plain.{block_tree}
-use Rattle.regions.specs.Straight.{Over, On, way_of, line, in_line, straight_tree}
+use Rattle.regions.specs.declared.one_line.Way.TheVariants.{On, Over}
+use Rattle.regions.specs.Straight.{way_of, line, in_line, straight_tree}
 use Rattle.regions.specs.Laws.{IsStraightOf}
 use Rattle.regions.proofs.Blocks.{block_rule}
 use Rattle.regions.proofs.FlowWords.{AllUses, uses_append, uses_to, IsFlowName, IsTextName, text_names, flow_text, and_true}

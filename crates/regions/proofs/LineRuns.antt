@@ -19,7 +19,9 @@ use Rattle.guarded.specs.Run.{end_does, tree_does}
 use Rattle.guarded.proofs.Layers.{does_layer}
 use Rattle.regions.specs.Follows.{Follows}
 use Rattle.regions.specs.Plain.{tree_end, block_tree}
-use Rattle.regions.specs.Straight.{Way, On, Over, Splits, way_of, with_rest, on_way, from_block, line, in_line, straight_tree}
+use Rattle.regions.specs.declared.one_line.Way.{Way}
+use Rattle.regions.specs.declared.one_line.Way.TheVariants.{On, Over, Splits}
+use Rattle.regions.specs.Straight.{way_of, with_rest, on_way, from_block, line, in_line, straight_tree}
 use Rattle.regions.proofs.Lines.{every_line, line_tree}
 use Rattle.regions.proofs.Core.{core}
 use Rattle.regions.proofs.Tracks.{Place, Clear, Sound, Walk, Kept, Tracks, past_kept, kept_on, sound_on, not_nowhere, from_tracks}

@@ -4,7 +4,9 @@ use Rattle.std.specs.Prelude.{slice_get}
 use Rattle.micro_ir.specs.declared.flow.Block.{Block}
 use Rattle.guarded.specs.declared.tree.Tree.{Tree, Tree-F, roll-Tree}
 use Rattle.regions.specs.Plain.{block_tree}
-use Rattle.regions.specs.Straight.{Way, On, Over, Splits, way_of, with_rest, on_way, from_block, line, in_line}
+use Rattle.regions.specs.declared.one_line.Way.{Way}
+use Rattle.regions.specs.declared.one_line.Way.TheVariants.{On, Over, Splits}
+use Rattle.regions.specs.Straight.{way_of, with_rest, on_way, from_block, line, in_line}
 
 -- what holds of a last block, and of a block with a line after it, holds of every line
 module _ (blocks : List Block) (P : ℕ → List Tree → Type 0)

@@ -1,8 +1,13 @@
--- What holds of the plain tree.
+-- What holds of the plain tree, and of the straight one.
+use Rattle.std.proofs.Common.{◌≡◌, Option, Some, None, sym}
+use Rattle.std.specs.Prelude.{IfSome}
 use Rattle.micro_ir.specs.declared.flow.Flow.{Flow}
 use Rattle.micro_ir.specs.Rule.{IsGiven}
 use Rattle.regions.specs.Plain.{plain_tree}
-use Rattle.regions.specs.Laws.{IsPlainOf}
+use Rattle.regions.specs.Straight.{straight_tree}
+use Rattle.regions.specs.Laws.{IsPlainOf, IsStraightOf}
+use Rattle.guarded.specs.declared.tree.Tree.{Tree}
+use Rattle.regions.proofs.LineFormed.{is_straight_of}
 use Rattle.regions.proofs.PlainRuns.{plain_follows}
 use Rattle.regions.proofs.PlainFormed.{plain_allowed}
 use Rattle.regions.proofs.Counted.{plain_deep, plain_loops, plain_tests, plain_calls, plain_stores}
@@ -18,3 +23,8 @@ is_plain_of f g = record {
   calls = plain_calls f;
   stores = plain_stores f;
 }
+
+-- of the straight tree that there may be
+pub is_straight : (f : Flow) → IsGiven f → (o : Option Tree) → o ≡ straight_tree f → IfSome o (λ t. IsStraightOf f t)
+is_straight f g None e = tt
+is_straight f g (Some t) e = is_straight_of f t g.rule (sym e)

@@ -1,17 +1,13 @@
 -- The tree of a flow that is one line of blocks.
-use Rattle.std.specs.Prelude.{ℕ, zero, suc, nat_eq, if◌then◌else◌, List, [], ◌∷◌, Option, Some, None, length, slice_get}
+use Rattle.std.specs.Prelude.{ℕ, zero, suc, nat_eq, if◌then◌else◌, List, [], ◌∷◌, ◌++◌, Option, Some, None, length, slice_get}
 use Rattle.micro_ir.specs.declared.flow.End.{End as BlockEnd}
 use Rattle.micro_ir.specs.declared.flow.End.TheVariants as end
 use Rattle.micro_ir.specs.declared.flow.Block.{Block}
 use Rattle.micro_ir.specs.declared.flow.Flow.{Flow}
 use Rattle.guarded.specs.declared.tree.Tree.{Tree, Tree-F, roll-Tree}
+use Rattle.regions.specs.declared.one_line.Way.{Way}
+use Rattle.regions.specs.declared.one_line.Way.TheVariants.{On, Over, Splits}
 use Rattle.regions.specs.Plain.{block_tree}
-
--- Where a line goes on after a block: at another block, nowhere, since the run is over, or it splits.
-pub data Way : Type 0 where
-  On : ℕ → Way
-  Over : Way
-  Splits : Way
 
 -- A Branch between one and the same node goes on there.
 abbrev pub way_of : BlockEnd → Way
@@ -40,6 +36,20 @@ from_block (Some b) rest = on_way (block_tree b) (way_of b.end) rest
 abbrev pub line : List Block → ℕ → ℕ → Option (List Tree)
 line blocks zero n = None
 line blocks (suc k) n = from_block (slice_get blocks n) (line blocks k)
+
+-- the way of a block that there may be, and its tree
+abbrev pub way_at : Option Block → Way
+way_at None = Splits
+way_at (Some b) = way_of b.end
+
+abbrev pub trees_at : Option Block → List Tree
+trees_at None = []
+trees_at (Some b) = block_tree b ∷ []
+
+-- a line that there may be, behind other trees
+abbrev pub behind : List Tree → Option (List Tree) → Option (List Tree)
+behind ts None = None
+behind ts (Some us) = Some (ts ++ us)
 
 -- the trees of a line one after another
 abbrev pub in_line : Option (List Tree) → Option Tree

@@ -5,7 +5,9 @@
 
 mod copy;
 mod laws;
+mod one_line;
 mod one_loop;
+mod trees;
 
 pub use laws::following_agrees;
-pub use one_loop::plain;
+pub use trees::{plain, straight};

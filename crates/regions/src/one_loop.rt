@@ -4,7 +4,6 @@ ghost use Rattle.std.specs.Prelude.{◌≡◌, ℕ, ◌^◌, ◌<◌, ◌++◌, 
 ghost use Rattle.run_parts.specs.Parts.{has};
 ghost use Rattle.c_words.specs.Built as built;
 ghost use Rattle.micro_ir.specs.declared.flow.Case.{Case};
-ghost use Rattle.micro_ir.specs.Rule.{IsGiven};
 ghost use Rattle.regions.specs.Plain.{selects, goes_to, nothing, value_case, value_cases, value_switch, next_trees, block_case, block_cases, selector_loop, plain_tree};
 
 use crate::copy;
@@ -163,11 +162,10 @@ fn selector_loop(alloc: Global, blocks: &[Block]) -> Result<Tree, AllocError>
     Ok(Tree::Loop(turn))
 }
 
-/// The tree of a flow with one loop: the selector `s0` has the number of the block that comes next,
-/// and a switch over it has a case for each block.
-pub fn plain(alloc: Global, f: &Flow) -> Result<Tree, AllocError>
-    requires { IsGiven f.now }
-    ensures exact { IfOk result (λ t. t ≡ plain_tree f.now) }
+/// The selector is set to the entry, and then the loop comes.
+pub(crate) fn tree(alloc: Global, f: &Flow) -> Result<Tree, AllocError>
+    requires { length f.now.blocks < 2 ^ 30 }
+    ensures { IfOk result (λ t. t ≡ plain_tree f.now) }
 {
     let mut trees = Items::new(alloc);
     trees.push(goes_to(f.entry))?;
