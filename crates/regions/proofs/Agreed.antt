@@ -9,7 +9,7 @@ use Rattle.dream_words.proofs.Outcomes.{Same-IsEnded, AreFront_refl, AreFront_tr
 use Rattle.run_parts.specs.Laws.{Begins}
 use Rattle.micro_ir.specs.Run.{flow_run}
 use Rattle.guarded.specs.Run.{tree_run}
-use Rattle.regions.specs.Follows.{NeverStuck, GoesAlong, Follows, FollowingAgrees}
+use Rattle.regions.specs.Follows.{GoesAlong, FollowingAgrees}
 
 front_of : (cs ds : List Call) → Begins cs ds → AreFront cs ds
 front_of cs ds b = subst (AreFront cs) (sym b.1) (AreFront-append cs b.0)

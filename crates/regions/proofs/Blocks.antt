@@ -1,9 +1,8 @@
 -- A block in a tree does what the flow's block does, up to its end.
-use Rattle.std.proofs.Common.{◌≡◌, ℕ, zero, suc, ◌+◌, ◌≤◌, nat_eq, Bool, true, false, cond, if◌then◌else◌, List, [], ◌∷◌, Option, Some, None, refl, sym, ap, ◌∙◌, subst, map, arith}
+use Rattle.std.proofs.Common.{◌≡◌, ℕ, zero, suc, Bool, List, [], ◌∷◌, Option, Some, sym, ap, ◌∙◌, subst}
 use Rattle.std.specs.Prelude.{slice_get, IsTrue}
-use Rattle.dream_words.specs.declared.outcome.Outcome.{Outcome}
-use Rattle.run_parts.specs.Parts.{Run, Ends, Goes, Past, Over, on, after, seq, skip, in_turn}
-use Rattle.run_parts.specs.Steps.{Next, Halt, Jam, To, End, Nowhere, arrive, then_do, done, having, simply}
+use Rattle.run_parts.specs.Parts.{Ends, Past, Over, on, after, seq}
+use Rattle.run_parts.specs.Steps.{Next, Halt, Jam, arrive, then_do, done, having}
 use Rattle.run_parts.specs.World.{World, returned}
 use Rattle.run_parts.specs.Effects.{Doing, set_word, setting}
 use Rattle.c_syntax.specs.declared.syntax.CExpr.{CExpr, CExpr-F}
@@ -12,19 +11,18 @@ use Rattle.c_syntax.specs.Value.{picked}
 use Rattle.c_syntax.specs.Run.{Part, word_in, holds, does_ext}
 use Rattle.c_syntax.proofs.Layers.{word_of_layer}
 use Rattle.c_words.specs.Built as built
-use Rattle.micro_ir.specs.declared.flow.End.{End as BlockEnd}
 use Rattle.micro_ir.specs.declared.flow.End.TheVariants as end
 use Rattle.micro_ir.specs.declared.flow.Block.{Block}
 use Rattle.micro_ir.specs.Rule.{are_flow_stmts, is_flow_end, is_flow_block, are_flow_blocks, is_flow_word}
-use Rattle.micro_ir.specs.Run.{Arrive, stmts_do, left_by, end_leads, block_leads, enter}
+use Rattle.micro_ir.specs.Run.{stmts_do, left_by, end_leads, enter}
 use Rattle.micro_ir.proofs.Values.{both_true}
 use Rattle.guarded.specs.declared.tree.SetTo.TheVariants as to
-use Rattle.guarded.specs.declared.tree.Tree.{Tree, Tree-F, roll-Tree}
-use Rattle.guarded.specs.Run.{end_does, block_does, tree_does}
+use Rattle.guarded.specs.declared.tree.Tree.{Tree-F}
+use Rattle.guarded.specs.Run.{end_does, tree_does}
 use Rattle.guarded.proofs.Layers.{does_layer}
-use Rattle.regions.specs.Plain.{selector, selects, goes_to, nothing, tree_end, block_tree}
+use Rattle.regions.specs.Plain.{selector, selects, goes_to, tree_end, block_tree}
 use Rattle.regions.proofs.Core.{core, core_did, stmts_bare, ext_bare}
-use Rattle.regions.proofs.Tracks.{Place, Clear, Sound, Walk, Kept, over_kept, not_nowhere}
+use Rattle.regions.proofs.Tracks.{Place, Sound, Kept, over_kept, not_nowhere}
 
 -- a block of a flow that keeps the rule keeps it
 pub block_rule : (blocks : List Block) (n : ℕ) (b : Block) → slice_get blocks n ≡ Some b → IsTrue (are_flow_blocks blocks) → IsTrue (is_flow_block b)
@@ -75,7 +73,7 @@ module _ (blocks : List Block) (head : ℕ → Bool) where
   block_kept Out Brk d n s m b rest e rule o h =
       let bare = stmts_bare b.stmts s (both_true (are_flow_stmts b.stmts) (is_flow_end b.end) rule).0 in
       let leads : enter (slice_get blocks n) (core s) ≡ arrive (core_did (stmts_do b.stmts s)) (end_leads b.end) =
-          ap (λ x. enter x (core s)) e ∙ ap (λ r. arrive r (end_leads b.end)) bare in
+      ap (λ x. enter x (core s)) e ∙ ap (λ r. arrive r (end_leads b.end)) bare in
       subst (λ r. Kept blocks head Out Brk d n s m (on r (after rest))) (sym (block_is b m s)) (stmts_kept Out Brk d n s m b rest o h (stmts_do b.stmts s) leads)
 
   -- ---- the ends of the run

@@ -1,19 +1,17 @@
 -- The world of a flow: that of a tree, without the locals that the tree adds.
-use Rattle.std.proofs.Common.{◌≡◌, ℕ, nat_eq, Bool, true, false, ◌&&◌, if◌then◌else◌, List, [], ◌∷◌, Option, Some, None, refl, sym, ap, ◌∙◌, map, arith}
+use Rattle.std.proofs.Common.{◌≡◌, ℕ, nat_eq, Bool, true, false, if◌then◌else◌, List, [], ◌∷◌, Option, Some, None, refl, ap, ◌∙◌, arith}
 use Rattle.std.specs.Prelude.{IsTrue}
 use Rattle.std.proofs.Math.Path.{fun_ext}
 use Rattle.std.proofs.lemmas.Bool.Decides.{nat_tests}
 use Rattle.dream_words.specs.declared.machine.Name.{Name}
 use Rattle.dream_words.specs.declared.machine.Name.TheVariants.{Reg, Flag, Fs, Gs, T, B, S}
-use Rattle.dream_words.specs.declared.machine.Width.{Width}
 use Rattle.dream_words.specs.declared.outcome.Start.{Start}
 use Rattle.dream_words.specs.declared.outcome.Answer.{Answer}
 use Rattle.dream_words.specs.declared.outcome.Call.{Call}
-use Rattle.dream_words.specs.declared.outcome.Outcome.{Outcome}
 use Rattle.dream_words.specs.declared.outcome.Outcome.TheVariants as outcome
-use Rattle.run_parts.specs.World.{World, Names, with_name, answered, start_names, start_world, returned}
+use Rattle.run_parts.specs.World.{World, Names, with_name, answered, start_names, start_world}
 use Rattle.run_parts.specs.Steps.{Next, Halt, Jam, having, then_do}
-use Rattle.run_parts.specs.Effects.{Doing, set_word, answered_by, setting, loading, storing, calling, trapping}
+use Rattle.run_parts.specs.Effects.{Doing, set_word, answered_by}
 use Rattle.c_syntax.specs.declared.syntax.CExpr.{CExpr}
 use Rattle.c_syntax.specs.declared.syntax.CCond.{CCond}
 use Rattle.c_syntax.specs.Run.{word_in, holds, does_ext}

@@ -1,5 +1,5 @@
 -- The loops, tests, calls and stores of the plain tree, and how deep it nests.
-use Rattle.std.proofs.Common.{map, ◌≡◌, ℕ, suc, ◌+◌, ◌<◌, ◌≤◌, max, Bool, true, false, if◌then◌else◌, List, [], ◌∷◌, ◌++◌, refl, sym, ap, ◌∙◌, subst, arith}
+use Rattle.std.proofs.Common.{map, ◌≡◌, ℕ, suc, ◌+◌, ◌≤◌, Bool, true, false, if◌then◌else◌, List, [], ◌∷◌, ◌++◌, refl, ap, ◌∙◌, arith}
 use Rattle.run_parts.specs.Parts.{has}
 use Rattle.c_syntax.specs.declared.syntax.CExpr.{CExpr}
 use Rattle.c_syntax.specs.Depth.{deepest}
@@ -15,10 +15,10 @@ use Rattle.micro_ir.specs.Counts.{stores_of_stmt, stores_of_stmts, stores_of, ca
 use Rattle.guarded.specs.declared.tree.SetTo.TheVariants as to
 use Rattle.guarded.specs.declared.tree.Tree.{Tree, Tree-F, roll-Tree}
 use Rattle.guarded.specs.declared.tree.TreeCase.{TreeCase}
-use Rattle.guarded.specs.Counts.{Weights, total, stmt_count, stmts_count, end_count, block_count, tree_count, case_count, each_loop, each_test, each_ext, each_store}
-use Rattle.guarded.specs.Formed.{Bodies, bodies, deepest_alone, tree_bodies, case_bodies}
+use Rattle.guarded.specs.Counts.{Weights, total, stmt_count, stmts_count, end_count, tree_count, case_count, each_loop, each_test, each_ext, each_store}
+use Rattle.guarded.specs.Formed.{Bodies, deepest_alone, tree_bodies, case_bodies}
 use Rattle.guarded.proofs.Layers.{count_layer, case_count_layer, bodies_layer, case_bodies_layer}
-use Rattle.regions.specs.Plain.{selector, selects, goes_to, nothing, value_case, value_cases, value_switch, next_trees, tree_end, block_tree, block_case, block_cases, selector_loop, plain_tree}
+use Rattle.regions.specs.Plain.{selector, selects, goes_to, nothing, value_case, value_cases, next_trees, tree_end, block_tree, block_case, block_cases, selector_loop, plain_tree}
 use Rattle.regions.specs.Laws.{switches_of_end, switches_of}
 
 abbrev block_body : Block → Tree

@@ -1,5 +1,5 @@
 -- Words and Conds of a flow may stand in a tree, and have just names of a flow.
-use Rattle.std.proofs.Common.{◌≡◌, ℕ, ◌^◌, ◌-◌, ◌<◌, ◌≤◌, Bool, true, false, ◌&&◌, nat_lt, nat_le, List, [], ◌∷◌, ◌++◌, refl, sym, ap, ◌∙◌, subst, arith}
+use Rattle.std.proofs.Common.{◌≡◌, ◌^◌, ◌-◌, ◌≤◌, Bool, ◌&&◌, nat_le, List, [], ◌∷◌, ◌++◌, refl, sym, ap, ◌∙◌, subst, arith}
 use Rattle.std.specs.Prelude.{IsTrue}
 use Rattle.dream_words.specs.declared.machine.Name.{Name}
 use Rattle.dream_words.specs.declared.machine.Name.TheVariants as name
@@ -8,7 +8,7 @@ use Rattle.c_syntax.specs.declared.syntax.CExpr.{CExpr, CExpr-F, roll-CExpr}
 use Rattle.c_syntax.specs.declared.syntax.CCond as c
 use Rattle.c_syntax.specs.declared.syntax.CCond.{CCond, CCond-F, roll-CCond}
 use Rattle.c_syntax.specs.Depth.{word_depth, cond_depth}
-use Rattle.c_syntax.specs.Formed.{is_word, cond_names}
+use Rattle.c_syntax.specs.Formed.{cond_names}
 use Rattle.c_syntax.proofs.Induct.{WordCases, every_word, every_cond}
 use Rattle.micro_ir.specs.Rule.{is_flow_name, word_names, has_flow_names, cond_has_flow_names, is_flow_word, is_flow_cond}
 use Rattle.micro_ir.proofs.Values.{both_true, names_layer}

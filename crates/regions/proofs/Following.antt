@@ -1,13 +1,11 @@
 -- A tree that goes along a flow follows it: one induction serves both directions. Run the tree with as many turns as there
 -- are heads among the first k blocks: if it still waits, it stands before a head that the flow has yet to enter.
-use Rattle.std.proofs.Common.{◌≡◌, ℕ, zero, suc, ◌+◌, ◌-◌, ◌<◌, ◌≤◌, Bool, true, false, List, refl, sym, ap, ◌∙◌, subst, arith}
-use Rattle.dream_words.specs.declared.outcome.Start.{Start}
-use Rattle.dream_words.specs.declared.outcome.Answer.{Answer}
+use Rattle.std.proofs.Common.{◌≡◌, ℕ, ◌+◌, ◌-◌, ◌≤◌, Bool, List, refl, sym, ap, ◌∙◌, subst, arith}
 use Rattle.dream_words.specs.declared.outcome.Call.{Call}
 use Rattle.dream_words.specs.declared.outcome.Outcome.{Outcome}
 use Rattle.dream_words.specs.declared.outcome.Outcome.TheVariants as outcome
 use Rattle.dream_words.specs.Same.{IsEnded, calls_of}
-use Rattle.run_parts.specs.Parts.{Exit, Past, Broke, Over, Stuck, Run, Ends, Goes}
+use Rattle.run_parts.specs.Parts.{Past, Broke, Over, Stuck, Run, Ends, Goes}
 use Rattle.run_parts.specs.Steps.{To, End, Nowhere}
 use Rattle.run_parts.specs.World.{World, start_world, outcome_of}
 use Rattle.run_parts.specs.Laws.{Begins, OutcomeShows}
@@ -19,11 +17,11 @@ use Rattle.micro_ir.specs.Run as flow
 use Rattle.micro_ir.specs.Laws.{ArriveShows}
 use Rattle.micro_ir.proofs.More.{one_end, goes_before, calls_later}
 use Rattle.guarded.specs.declared.tree.Tree.{Tree}
-use Rattle.guarded.specs.Run.{tree_does, tree_run}
+use Rattle.guarded.specs.Run.{tree_does}
 use Rattle.regions.specs.Follows.{NeverStuck, GoesAlong, Follows}
 use Rattle.regions.proofs.Core.{core, start_bare}
 use Rattle.regions.proofs.Entries.{entries, one_more_head, heads_at_most}
-use Rattle.regions.proofs.Tracks.{Place, Clear, Sound, Walk, Waits, Kept, Tracks}
+use Rattle.regions.proofs.Tracks.{Place, Clear, Sound, Kept, Tracks}
 use Rattle.regions.proofs.Ended.{ended}
 
 -- no place
@@ -142,7 +140,9 @@ module _ (blocks : List Block) (head : ℕ → Bool) (run : ℕ → Run World Ou
 -- a tree that goes along a flow from its entry, in each world, to no other place follows it
 pub follows : (f : Flow) (head : ℕ → Bool) (t : Tree)
     → ((s : World) → Tracks f.blocks head (Starts f.entry s) (tree_does t) (Clear None_such) (Clear None_such)) → Follows f t
-follows f head t h = record { from = λ start answers g.
-  let s = start_world start answers in
-  let sound : Sound f.blocks head f.entry (core s) = λ k e. g k (ap (λ u. flow.outcome_of (walk f.blocks k f.entry u)) (sym (start_bare start answers)) ∙ ap flow.outcome_of e) in
-  along f.blocks head (λ m. tree_does t m s) f.entry s (start_bare start answers) (λ m. (h s).by 0 f.entry s m (refl, refl, refl) sound) g }
+follows f head t h = record {
+  from = λ start answers g.
+      let s = start_world start answers in
+      let sound : Sound f.blocks head f.entry (core s) = λ k e. g k (ap (λ u. flow.outcome_of (walk f.blocks k f.entry u)) (sym (start_bare start answers)) ∙ ap flow.outcome_of e) in
+      along f.blocks head (λ m. tree_does t m s) f.entry s (start_bare start answers) (λ m. (h s).by 0 f.entry s m (refl, refl, refl) sound) g;
+}

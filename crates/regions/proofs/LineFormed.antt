@@ -1,19 +1,18 @@
 -- The tree of a line is well formed, and has no loop, no test and no selector.
-use Rattle.std.proofs.Common.{map, ◌≡◌, ℕ, ◌+◌, ◌≤◌, max, Bool, true, false, ◌&&◌, List, [], ◌∷◌, ◌++◌, length, Option, Some, None, refl, sym, ap, ◌∙◌, subst, arith}
-use Rattle.std.specs.Prelude.{IsTrue, slice_get}
+use Rattle.std.proofs.Common.{map, ◌≡◌, ℕ, ◌+◌, false, List, [], ◌∷◌, length, Some, refl, sym, ap, ◌∙◌, subst, arith}
+use Rattle.std.specs.Prelude.{IsTrue}
 use Rattle.c_syntax.specs.Formed.{all}
 use Rattle.micro_ir.specs.declared.flow.Block.{Block}
 use Rattle.micro_ir.specs.declared.flow.Flow.{Flow}
 use Rattle.micro_ir.specs.Rule.{is_flow_block, are_flow_blocks, KeepsRule}
 use Rattle.guarded.specs.declared.tree.Tree.{Tree, Tree-F, roll-Tree}
-use Rattle.guarded.specs.Uses.{Use, joined, names_of, tree_uses}
-use Rattle.guarded.specs.Counts.{Weights, total, stmts_count, end_count, tree_count, each_loop, each_test, selectors_of}
+use Rattle.guarded.specs.Uses.{joined, tree_uses}
+use Rattle.guarded.specs.Counts.{Weights, total, stmts_count, end_count, tree_count, each_loop, each_test}
 use Rattle.guarded.specs.Formed.{Bodies, deepest_alone, tree_allowed, tree_bodies, IsWellFormed}
 use Rattle.guarded.proofs.Induct.{Each}
 use Rattle.guarded.proofs.Layers.{allowed_layer, bodies_layer, uses_layer, count_layer}
 use Rattle.regions.specs.Plain.{block_tree}
-use Rattle.regions.specs.declared.one_line.Way.TheVariants.{On, Over}
-use Rattle.regions.specs.Straight.{way_of, line, in_line, straight_tree}
+use Rattle.regions.specs.Straight.{line, in_line, straight_tree}
 use Rattle.regions.specs.Laws.{IsStraightOf}
 use Rattle.regions.proofs.Blocks.{block_rule}
 use Rattle.regions.proofs.FlowWords.{AllUses, uses_append, uses_to, IsFlowName, IsTextName, text_names, flow_text, and_true}

@@ -1,27 +1,26 @@
 -- The tree of a flow that is one line follows it.
-use Rattle.std.proofs.Common.{◌≡◌, ℕ, zero, suc, ◌+◌, ◌≤◌, nat_eq, Bool, true, false, cond, if◌then◌else◌, List, [], ◌∷◌, length, Option, Some, None, refl, sym, ap, ◌∙◌, subst, map, arith}
+use Rattle.std.proofs.Common.{◌≡◌, ℕ, nat_eq, Bool, true, false, if◌then◌else◌, List, [], ◌∷◌, length, Option, Some, None, refl, sym, ap, ◌∙◌, subst, map, arith}
 use Rattle.std.specs.Prelude.{slice_get, IsTrue}
 use Rattle.std.proofs.lemmas.Bool.Decides.{nat_tests}
 use Rattle.dream_words.specs.declared.outcome.Outcome.{Outcome}
-use Rattle.run_parts.specs.Parts.{Run, Ends, Past, Over as RunOver, on, after, seq, skip, in_turn}
-use Rattle.run_parts.specs.Steps.{To, End, Nowhere, done}
+use Rattle.run_parts.specs.Parts.{Run, on, after, skip, in_turn}
+use Rattle.run_parts.specs.Steps.{To, done}
 use Rattle.run_parts.specs.World.{World}
 use Rattle.c_syntax.specs.Run.{Part, holds}
 use Rattle.micro_ir.specs.declared.flow.End.{End as BlockEnd}
 use Rattle.micro_ir.specs.declared.flow.End.TheVariants as end
 use Rattle.micro_ir.specs.declared.flow.Block.{Block}
 use Rattle.micro_ir.specs.declared.flow.Flow.{Flow}
-use Rattle.micro_ir.specs.Rule.{are_flow_stmts, are_flow_blocks, is_flow_end, is_flow_block, KeepsRule}
-use Rattle.micro_ir.specs.Run.{Arrive, branch, end_leads, enter}
+use Rattle.micro_ir.specs.Rule.{are_flow_stmts, are_flow_blocks, is_flow_end, KeepsRule}
+use Rattle.micro_ir.specs.Run.{branch, end_leads, enter}
 use Rattle.micro_ir.proofs.Values.{both_true}
 use Rattle.guarded.specs.declared.tree.Tree.{Tree, Tree-F, roll-Tree}
 use Rattle.guarded.specs.Run.{end_does, tree_does}
 use Rattle.guarded.proofs.Layers.{does_layer}
 use Rattle.regions.specs.Follows.{Follows}
 use Rattle.regions.specs.Plain.{tree_end, block_tree}
-use Rattle.regions.specs.declared.one_line.Way.{Way}
 use Rattle.regions.specs.declared.one_line.Way.TheVariants.{On, Over, Splits}
-use Rattle.regions.specs.Straight.{way_of, with_rest, on_way, from_block, line, in_line, straight_tree}
+use Rattle.regions.specs.Straight.{way_of, line, straight_tree}
 use Rattle.regions.proofs.Lines.{every_line, line_tree}
 use Rattle.regions.proofs.Core.{core}
 use Rattle.regions.proofs.Tracks.{Place, Clear, Sound, Walk, Kept, Tracks, past_kept, kept_on, sound_on, not_nowhere, from_tracks}
@@ -101,22 +100,26 @@ module _ (blocks : List Block) (rule : IsTrue (are_flow_blocks blocks)) where
 
   -- a line that goes on
   longer : (n c : ℕ) (b : Block) (ts : List Tree) → slice_get blocks n ≡ Some b → way_of b.end ≡ On c → IsLine c ts → IsLine n (block_tree b ∷ ts)
-  longer n c b ts e w h = record { by = λ d k s m i o.
-    let at : slice_get blocks k ≡ Some b = ap (λ j. slice_get blocks j) i.1 ∙ e in
-    let rest = in_turn (map tree_does ts) in
-    block_kept blocks nowhere (Clear None_such) (Clear None_such) d k s m b rest at (block_rule blocks k b at rule) o (λ t g.
-      let walk = on_walk b.end c d k s m t i.0 w o g in
-      subst (λ r. KeptHere (Clear None_such) d k s m r) (sym (on_does b.end c m t rest w))
-      (kept_on blocks nowhere (Clear (Before c)) (Clear None_such) (Clear None_such) d k s m t m walk (rest m t)
-      (h.by walk.debt walk.node t m walk.holds (sound_on blocks nowhere walk.steps k walk.node (core s) (core t) o walk.path)))) }
+  longer n c b ts e w h = record {
+    by = λ d k s m i o.
+        let at : slice_get blocks k ≡ Some b = ap (λ j. slice_get blocks j) i.1 ∙ e in
+        let rest = in_turn (map tree_does ts) in
+        block_kept blocks nowhere (Clear None_such) (Clear None_such) d k s m b rest at (block_rule blocks k b at rule) o (λ t g.
+        let walk = on_walk b.end c d k s m t i.0 w o g in
+        subst (λ r. KeptHere (Clear None_such) d k s m r) (sym (on_does b.end c m t rest w))
+        (kept_on blocks nowhere (Clear (Before c)) (Clear None_such) (Clear None_such) d k s m t m walk (rest m t)
+        (h.by walk.debt walk.node t m walk.holds (sound_on blocks nowhere walk.steps k walk.node (core s) (core t) o walk.path))));
+  }
 
   -- the last block of a line
   last_one : (n : ℕ) (b : Block) → slice_get blocks n ≡ Some b → way_of b.end ≡ Over → IsLine n (block_tree b ∷ [])
-  last_one n b e w = record { by = λ d k s m i o.
-    let at : slice_get blocks k ≡ Some b = ap (λ j. slice_get blocks j) i.1 ∙ e in
-    let r = block_rule blocks k b at rule in
-    block_kept blocks nowhere (Clear None_such) (Clear None_such) d k s m b skip at r o
-    (λ t g. over_end b.end (Clear None_such) d k s m t skip w (both_true (are_flow_stmts b.stmts) (is_flow_end b.end) r).1 o g) }
+  last_one n b e w = record {
+    by = λ d k s m i o.
+        let at : slice_get blocks k ≡ Some b = ap (λ j. slice_get blocks j) i.1 ∙ e in
+        let r = block_rule blocks k b at rule in
+        block_kept blocks nowhere (Clear None_such) (Clear None_such) d k s m b skip at r o
+        (λ t g. over_end b.end (Clear None_such) d k s m t skip w (both_true (are_flow_stmts b.stmts) (is_flow_end b.end) r).1 o g);
+  }
 
   line_is : (k n : ℕ) (ts : List Tree) → line blocks k n ≡ Some ts → IsLine n ts
   line_is = every_line blocks IsLine last_one longer

@@ -1,5 +1,5 @@
 -- The names of the plain tree: those of the flow, and the selector.
-use Rattle.std.proofs.Common.{map, ◌≡◌, ℕ, ◌+◌, ◌^◌, ◌-◌, ◌<◌, Bool, true, false, nat_eq, nat_lt, if◌then◌else◌, List, [], ◌∷◌, ◌++◌, length, refl, sym, ap, ◌∙◌, subst, arith}
+use Rattle.std.proofs.Common.{map, ◌≡◌, ℕ, ◌+◌, ◌^◌, ◌-◌, Bool, true, false, nat_eq, nat_lt, if◌then◌else◌, List, [], ◌∷◌, ◌++◌, length, refl, sym, ap, ◌∙◌, subst}
 use Rattle.std.specs.Prelude.{IsTrue}
 use Rattle.dream_words.specs.declared.machine.Name.{Name}
 use Rattle.dream_words.specs.declared.machine.Name.TheVariants as name
@@ -19,10 +19,10 @@ use Rattle.micro_ir.proofs.Values.{both_true}
 use Rattle.guarded.specs.declared.tree.SetTo.TheVariants as to
 use Rattle.guarded.specs.declared.tree.Tree.{Tree, Tree-F, roll-Tree}
 use Rattle.guarded.specs.declared.tree.TreeCase.{TreeCase}
-use Rattle.guarded.specs.Uses.{Use, Reads, Sets, joined, name_of, names_of, word_uses, cond_uses, stmt_uses, stmts_uses, end_uses, block_uses, tree_uses, case_uses}
+use Rattle.guarded.specs.Uses.{Use, Sets, joined, name_of, names_of, word_uses, cond_uses, stmt_uses, stmts_uses, end_uses, tree_uses, case_uses}
 use Rattle.guarded.specs.Numbers.{Locals, no_locals, with_number, with_local, with_locals, locals_of}
 use Rattle.guarded.specs.Counts.{selectors_of}
-use Rattle.guarded.specs.Formed.{is_text_name, are_text_names}
+use Rattle.guarded.specs.Formed.{are_text_names}
 use Rattle.guarded.proofs.Layers.{uses_layer, case_uses_layer}
 use Rattle.regions.specs.Plain.{selector, selects, goes_to, nothing, value_case, value_cases, value_switch, next_trees, tree_end, block_tree, block_case, block_cases, selector_loop, plain_tree}
 use Rattle.regions.proofs.Standing.{number_is}

@@ -1,10 +1,10 @@
 -- The plain tree of a flow is well formed.
-use Rattle.std.proofs.Common.{map, ◌≡◌, ℕ, zero, suc, ◌+◌, ◌^◌, ◌<◌, ◌≤◌, max, Bool, true, false, not, ◌&&◌, nat_eq, nat_le, if◌then◌else◌, List, [], ◌∷◌, ◌++◌, length, Option, Some, None, refl, sym, ap, ◌∙◌, subst, arith}
-use Rattle.std.specs.Prelude.{IsTrue, slice_get, slice_index_or, Contains}
+use Rattle.std.proofs.Common.{map, ◌≡◌, ℕ, suc, ◌+◌, ◌^◌, ◌<◌, Bool, true, false, not, ◌&&◌, nat_eq, nat_le, if◌then◌else◌, List, [], ◌∷◌, ◌++◌, length, Some, refl, sym, ap, ◌∙◌, arith}
+use Rattle.std.specs.Prelude.{IsTrue, slice_get, Contains}
 use Rattle.run_parts.specs.Parts.{has}
 use Rattle.c_syntax.specs.declared.syntax.CExpr.{CExpr, CExpr-F}
 use Rattle.c_syntax.specs.declared.syntax.CCond.{CCond}
-use Rattle.c_syntax.specs.Depth.{word_depth, cond_depth, deepest}
+use Rattle.c_syntax.specs.Depth.{word_depth}
 use Rattle.c_syntax.specs.Formed.{is_word, is_base, are_distinct, are_words, has_any, all, GroupAllowed, groups_values, all_groups}
 use Rattle.c_syntax.proofs.Layers.{word_depth_layer}
 use Rattle.c_words.specs.Built as built
@@ -21,11 +21,11 @@ use Rattle.micro_ir.proofs.Values.{both_true}
 use Rattle.guarded.specs.declared.tree.SetTo.TheVariants as to
 use Rattle.guarded.specs.declared.tree.Tree.{Tree, Tree-F, roll-Tree}
 use Rattle.guarded.specs.declared.tree.TreeCase.{TreeCase}
-use Rattle.guarded.specs.Formed.{numbers_word, numbers_cond, word_fits, stmt_allowed, stmts_allowed, end_allowed, block_allowed, tree_allowed, case_allowed, Bodies, deepest_alone, tree_bodies, case_bodies}
+use Rattle.guarded.specs.Formed.{numbers_word, numbers_cond, word_fits, stmt_allowed, stmts_allowed, end_allowed, tree_allowed, case_allowed}
 use Rattle.guarded.proofs.Induct.{Each}
-use Rattle.guarded.proofs.Layers.{allowed_layer, case_allowed_layer, bodies_layer, case_bodies_layer}
+use Rattle.guarded.proofs.Layers.{allowed_layer, case_allowed_layer}
 use Rattle.regions.specs.Plain.{selector, selects, goes_to, nothing, value_case, value_cases, value_switch, next_trees, tree_end, block_tree, block_case, block_cases, selector_loop, plain_tree}
-use Rattle.regions.proofs.Standing.{same_number, other_number, not_seen, has_still, has_last, lt_true, le_true, lt_from}
+use Rattle.regions.proofs.Standing.{other_number, has_still, has_last, lt_true, le_true, lt_from}
 use Rattle.regions.proofs.Blocks.{block_rule}
 use Rattle.regions.proofs.FlowWords.{and_true, numbers_layer, word_fit, cond_numbers, cond_deep}
 

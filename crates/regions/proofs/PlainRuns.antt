@@ -1,10 +1,10 @@
 -- The plain tree follows its flow.
-use Rattle.std.proofs.Common.{◌≡◌, ◌⊎◌, inl, inr, ℕ, zero, suc, ◌+◌, ◌≤◌, nat_eq, Bool, true, false, cond, if◌then◌else◌, List, [], ◌∷◌, ◌++◌, Option, Some, None, refl, sym, ap, ◌∙◌, subst, map, arith}
+use Rattle.std.proofs.Common.{◌≡◌, ◌⊎◌, inl, inr, ℕ, zero, suc, ◌+◌, ◌≤◌, nat_eq, Bool, true, false, if◌then◌else◌, List, [], ◌∷◌, ◌++◌, Option, Some, None, refl, sym, ap, ◌∙◌, subst, map, arith}
 use Rattle.std.specs.Prelude.{slice_get, IsTrue}
 use Rattle.dream_words.specs.declared.outcome.Outcome.{Outcome}
-use Rattle.run_parts.specs.Parts.{Run, Ends, Goes, Past, Over, on, after, seq, skip, in_turn, caught, catch_break, has, group_of, given, switch, repeat, always}
-use Rattle.run_parts.specs.Steps.{Next, Halt, Jam, To, End, Nowhere, done}
-use Rattle.run_parts.specs.World.{World, returned}
+use Rattle.run_parts.specs.Parts.{Run, Ends, Past, on, after, seq, skip, in_turn, caught, has, group_of, switch, repeat, always}
+use Rattle.run_parts.specs.Steps.{To, Nowhere, done}
+use Rattle.run_parts.specs.World.{World}
 use Rattle.run_parts.specs.Effects.{set_word}
 use Rattle.c_syntax.specs.declared.syntax.CExpr.{CExpr}
 use Rattle.c_syntax.specs.declared.syntax.CCond.{CCond}
@@ -16,20 +16,19 @@ use Rattle.micro_ir.specs.declared.flow.End.{End as BlockEnd}
 use Rattle.micro_ir.specs.declared.flow.End.TheVariants as end
 use Rattle.micro_ir.specs.declared.flow.Block.{Block}
 use Rattle.micro_ir.specs.declared.flow.Flow.{Flow}
-use Rattle.micro_ir.specs.Rule.{are_flow_stmts, are_flow_blocks, is_flow_word, is_flow_cond, have_words, is_flow_end, is_flow_block, KeepsRule}
-use Rattle.micro_ir.specs.Run.{Arrive, branch, first_case, by_value, end_leads, enter}
+use Rattle.micro_ir.specs.Rule.{are_flow_stmts, are_flow_blocks, is_flow_word, have_words, is_flow_end, KeepsRule}
+use Rattle.micro_ir.specs.Run.{branch, first_case, by_value, end_leads, enter}
 use Rattle.micro_ir.proofs.Values.{both_true}
 use Rattle.guarded.specs.declared.tree.Tree.{Tree, Tree-F, roll-Tree}
-use Rattle.guarded.specs.declared.tree.TreeCase.{TreeCase}
 use Rattle.guarded.specs.Run.{end_does, tree_does, case_does}
 use Rattle.guarded.proofs.Layers.{does_layer, case_does_layer}
 use Rattle.regions.specs.Follows.{Follows}
-use Rattle.regions.specs.Plain.{selector, selects, goes_to, nothing, value_case, value_cases, value_switch, next_trees, tree_end, block_tree, block_case, block_cases, selector_loop, plain_tree}
+use Rattle.regions.specs.Plain.{selector, goes_to, nothing, value_case, value_cases, value_switch, next_trees, tree_end, block_tree, block_case, block_cases, selector_loop, plain_tree}
 use Rattle.regions.proofs.Standing.{same_number, other_number, not_seen, has_more}
 use Rattle.regions.proofs.Core.{core, selector_apart, selector_set, word_bare, cond_bare}
-use Rattle.regions.proofs.Tracks.{Place, Clear, Owed, Sound, Walk, Kept, Tracks, seq_tracks, skip_tracks, catch_kept, loop_tracks, past_kept, over_kept, not_nowhere}
+use Rattle.regions.proofs.Tracks.{Clear, Owed, Sound, Kept, Tracks, seq_tracks, skip_tracks, catch_kept, loop_tracks, past_kept, not_nowhere}
 use Rattle.regions.proofs.Following.{None_such, Starts, follows}
-use Rattle.regions.proofs.Blocks.{block_rule, num_in, pick_in, selects_does, goes_does, At_end, block_kept, return_kept, leave_kept}
+use Rattle.regions.proofs.Blocks.{block_rule, num_in, pick_in, selects_does, goes_does, block_kept, return_kept, leave_kept}
 
 -- ---- the case of a number
 
@@ -168,8 +167,8 @@ module _ (blocks : List Block) (rule : IsTrue (are_flow_blocks blocks)) where
   by_value_kept d n s m e cases t (Some x) h o g k =
       let u = set_word selector x t in
       let found : FoundOrNone cases x (core t) (group_of (map case_does (value_cases [] cases)) (tree_does nothing) (u.names selector) m u) m u =
-          subst (λ y. FoundOrNone cases x (core t) (group_of (map case_does (value_cases [] cases)) (tree_does nothing) y m u) m u) (sym (selector_set 0 x t))
-          (value_found [] cases x m u (core t) (tree_does nothing) refl) in
+      subst (λ y. FoundOrNone cases x (core t) (group_of (map case_does (value_cases [] cases)) (tree_does nothing) y m u) m u) (sym (selector_set 0 x t))
+      (value_found [] cases x m u (core t) (tree_does nothing) refl) in
       subst (λ r. KeptHere d n s m (on r (after (seq (tree_does (value_switch cases)) skip)))) (sym (selects_does e x m t g))
       (subst (λ r. KeptHere d n s m (on r (after skip))) (sym (switch_is cases m u))
       (value_kept d n s m x cases t _ h o k found))
@@ -205,9 +204,11 @@ module _ (blocks : List Block) (rule : IsTrue (are_flow_blocks blocks)) where
   turn_is = does_layer (Tree-F.Switch selector (block_cases 0 blocks) nothing)
 
   body_tracks : Tracks blocks every (Owed Selected) (tree_does turn_tree) (Clear Selected) (Clear None_such)
-  body_tracks = record { by = λ d n s m i o.
-    subst (λ (a : Part). Kept blocks every (Clear Selected) (Clear None_such) d n s m (a m s)) (sym turn_is)
-    (catch_kept blocks every (Clear Selected) (Clear None_such) d n s m _ (case_kept (slice_get blocks n) d n s m refl (omega (arith, i.0)) i.1 o)) }
+  body_tracks = record {
+    by = λ d n s m i o.
+        subst (λ (a : Part). Kept blocks every (Clear Selected) (Clear None_such) d n s m (a m s)) (sym turn_is)
+        (catch_kept blocks every (Clear Selected) (Clear None_such) d n s m _ (case_kept (slice_get blocks n) d n s m refl (omega (arith, i.0)) i.1 o));
+  }
 
   loop_is : tree_does (selector_loop blocks) ≡ repeat always (tree_does turn_tree) always
   loop_is = does_layer (Tree-F.Loop turn_tree)
@@ -228,8 +229,10 @@ module _ (blocks : List Block) (rule : IsTrue (are_flow_blocks blocks)) where
   }
 
   start_tracks : (entry : ℕ) (s : World) → Tracks blocks every (Starts entry s) (tree_does (goes_to entry)) (Clear Selected) (Clear None_such)
-  start_tracks entry s = record { by = λ d n u m i o.
-    subst (λ r. Kept blocks every (Clear Selected) (Clear None_such) d n u m r) (sym (goes_does entry m u)) (start_kept entry s d n u m i) }
+  start_tracks entry s = record {
+    by = λ d n u m i o.
+        subst (λ r. Kept blocks every (Clear Selected) (Clear None_such) d n u m r) (sym (goes_does entry m u)) (start_kept entry s d n u m i);
+  }
 
 pub plain_follows : (f : Flow) → KeepsRule f → Follows f (plain_tree f)
 plain_follows f rule = follows f every (plain_tree f) (λ s.

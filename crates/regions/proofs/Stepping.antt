@@ -7,7 +7,7 @@ use Rattle.guarded.specs.declared.tree.Tree.{Tree}
 use Rattle.regions.specs.declared.one_line.Way.{Way}
 use Rattle.regions.specs.declared.one_line.Way.TheVariants.{On, Over, Splits}
 use Rattle.regions.specs.Plain.{block_tree}
-use Rattle.regions.specs.Straight.{way_of, way_at, trees_at, with_rest, on_way, from_block, line, behind}
+use Rattle.regions.specs.Straight.{way_at, trees_at, with_rest, on_way, from_block, line, behind}
 
 pub found : (bs : List Block) (i : ℕ) (b : Block) → i < length bs → b ≡ get_or bs i b → slice_get bs i ≡ Some b
 found bs i b l e = slice_get_read bs (length bs) i b refl l e

@@ -1,13 +1,13 @@
 -- A part of a tree goes along a flow: it enters the flow's blocks in the flow's order and worlds.
-use Rattle.std.proofs.Common.{◌≡◌, ℕ, zero, suc, ◌+◌, ◌≤◌, Bool, true, false, cond, List, Option, Some, None, refl, sym, ap, ◌∙◌, subst, arith}
+use Rattle.std.proofs.Common.{◌≡◌, ℕ, zero, suc, ◌+◌, ◌≤◌, Bool, true, false, cond, List, Some, refl, sym, ap, ◌∙◌, subst, arith}
 use Rattle.std.specs.Prelude.{slice_get}
 use Rattle.dream_words.specs.declared.outcome.Outcome.{Outcome}
-use Rattle.run_parts.specs.Parts.{Exit, Past, Broke, Over, Stuck, Run, Ends, Goes, on, skip, after, seq, decide, choose, caught, catch_break, round, rounds, repeat, always}
+use Rattle.run_parts.specs.Parts.{Past, Broke, Over, Stuck, Run, Ends, Goes, on, skip, after, seq, decide, choose, caught, catch_break, round, rounds, repeat, always}
 use Rattle.run_parts.specs.Steps.{To, End, Nowhere}
 use Rattle.run_parts.specs.World.{World}
-use Rattle.c_syntax.specs.Run.{Part, Test}
+use Rattle.c_syntax.specs.Run.{Part}
 use Rattle.micro_ir.specs.declared.flow.Block.{Block}
-use Rattle.micro_ir.specs.Run.{Arrive, enter, onward, walk}
+use Rattle.micro_ir.specs.Run.{enter, onward, walk}
 use Rattle.micro_ir.proofs.More.{more_from}
 use Rattle.regions.proofs.Core.{core}
 use Rattle.regions.proofs.Entries.{count_on, entries, entries_more}

@@ -24,13 +24,7 @@ fn way_of(e: &End) -> Way
 {
     match e {
         End::Go(a) => Way::On(*a),
-        End::Branch(_, a, b) => {
-            if a.0 == b.0 {
-                Way::On(*a)
-            } else {
-                Way::Splits
-            }
-        }
+        End::Branch(_, a, b) => { if a.0 == b.0 { Way::On(*a) } else { Way::Splits } }
         End::Switch(_, _) => Way::Splits,
         End::Return => Way::Over,
         End::Leave(_) => Way::Over,

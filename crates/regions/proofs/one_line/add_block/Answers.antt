@@ -1,5 +1,4 @@
-use Rattle.std.proofs.Common.{◌≡◌, ◌++◌, [], ◌∷◌, ap, ◌∙◌, sym, Some, None, append-nil}
-use Rattle.std.specs.Prelude.{slice_get}
+use Rattle.std.proofs.Common.{◌++◌, [], ◌∷◌, ap, ◌∙◌, sym, append-nil}
 use Rattle.regions.specs.Straight.{way_at, trees_at}
 use Rattle.regions.proofs.Stepping.{found_at, past_at}
 use Rattle.regions.proofs.one_line.add_block.Goals as goal
