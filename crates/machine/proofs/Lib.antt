@@ -1,3 +1,5 @@
 pub mod Beginnings
 pub mod Staying
 pub mod Straying
+pub mod Fetching
+mod Stores

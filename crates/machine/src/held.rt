@@ -1,6 +1,6 @@
 //! Which bytes must stay as they are: the frozen ones of the image, and the four of the return slot.
 
-ghost use Rattle.std.specs.Prelude.{◌≡◌, ◌+◌, ◌^◌, ◌≤◌, ◌==◌, ◌||◌, length};
+ghost use Rattle.std.specs.Prelude.{◌≡◌, ◌+◌, ◌%◌, ◌^◌, ◌≤◌, ◌==◌, ◌||◌, length};
 ghost use Rattle.elf_image.specs.Layout.{AreLaidOut};
 ghost use Rattle.dream_words.specs.Memory.{byte_at, bytes_of};
 ghost use Rattle.x86_model.specs.Leads.{stored};
@@ -83,22 +83,25 @@ fn changes(image: &Image, slot: u32, mem: &Memory, a: u32, v: u8) -> bool
     is_held(image, slot, a) && mem.byte(a) != v
 }
 
-/// One of the low bytes of a word would be so.
-fn word_changes(image: &Image, slot: u32, mem: &Memory, s: &Stored) -> bool
-    ensures { result ≡ store_changes image.now slot mem.now s.now.at (bytes_of s.now.width) s.now.value }
+/// One of two neighbours would be so.
+fn pair_changes(image: &Image, slot: u32, mem: &Memory, at: u32, a: u8, b: u8) -> bool
+    ensures { result ≡ (changes_in image.now slot mem.now at a
+        || changes_in image.now slot mem.now ((at + 1) % 2 ^ 32) b) }
 {
-    let [a, b, c, d] = s.value.to_le_bytes();
-    let at = s.at;
-    match s.width {
+    changes(image, slot, mem, at, a) || changes(image, slot, mem, at.wrapping_add(1), b)
+}
+
+/// One of the low bytes of a word would be so at its address.
+fn word_changes(image: &Image, slot: u32, mem: &Memory, at: u32, width: Width, value: u32) -> bool
+    ensures { result ≡ store_changes image.now slot mem.now at (bytes_of width) value }
+{
+    let [a, b, c, d] = value.to_le_bytes();
+    match width {
         Width::B => changes(image, slot, mem, at, a),
-        Width::H => {
-            changes(image, slot, mem, at, a) || changes(image, slot, mem, at.wrapping_add(1), b)
-        }
+        Width::H => pair_changes(image, slot, mem, at, a, b),
         Width::W => {
-            changes(image, slot, mem, at, a)
-                || changes(image, slot, mem, at.wrapping_add(1), b)
-                || changes(image, slot, mem, at.wrapping_add(2), c)
-                || changes(image, slot, mem, at.wrapping_add(3), d)
+            pair_changes(image, slot, mem, at, a, b)
+                || pair_changes(image, slot, mem, at.wrapping_add(2), c, d)
         }
     }
 }
@@ -109,6 +112,6 @@ pub(crate) fn store_breaks(image: &Image, slot: u32, mem: &Memory, store: Option
 {
     match store {
         None => false,
-        Some(s) => word_changes(image, slot, mem, &s),
+        Some(s) => word_changes(image, slot, mem, s.at, s.width, s.value),
     }
 }

@@ -52,7 +52,8 @@ pub(crate) fn fetch(
     let bytes = image.bytes_to_end(alloc, window(range, at), at)?;
     match decode(&bytes) {
         Decoded::Inst(inst, len) => Ok(Some((inst, len))),
-        Decoded::Cut | Decoded::None => Ok(None),
+        Decoded::Cut => Ok(None),
+        Decoded::None => Ok(None),
     }
 }
 
