@@ -3,3 +3,4 @@ pub mod Staying
 pub mod Straying
 pub mod Fetching
 mod Stores
+mod Placed

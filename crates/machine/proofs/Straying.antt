@@ -26,7 +26,7 @@ fails_below (suc n) test h = elim (and_cases (all_below n test) (test n) h) [
   | inr e ↦ (n, omega arith, e)
 ]
 
-holds_below : (n k : ℕ) (test : ℕ → Bool) → all_below n test ≡ true → k < n → test k ≡ true
+pub holds_below : (n k : ℕ) (test : ℕ → Bool) → all_below n test ≡ true → k < n → test k ≡ true
 holds_below zero k test h lt = absurd (omega (arith, lt))
 holds_below (suc n) k test h lt =
     let p = and_parts (all_below n test) (test n) h in

@@ -6,11 +6,13 @@
 
 mod held;
 mod laws;
+mod memory;
 mod runs;
 mod settings;
 mod states;
 
 pub use laws::{every_range_decodes, outcomes_stay, straying_is_exact};
+pub use memory::start_memory;
 pub use runs::run;
 pub use settings::Setting;
 pub use states::{Led, Machine};
