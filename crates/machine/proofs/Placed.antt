@@ -1,10 +1,12 @@
 -- The bytes of segments that are put into a memory, one segment after another.
 use Rattle.std.proofs.Common.{◌≡◌, ℕ, zero, suc, ◌+◌, ◌-◌, ◌%◌, ◌^◌, ◌<◌, ◌≤◌, ◌⊎◌, inl, inr, Bool, true, false, cond, nat_le, nat_lt, List, [], ◌∷◌, length, get_or, Option, Some, None, unwrap_or, refl, sym, ap, subst, ◌∙◌, arith, add-zero}
 use Rattle.std.specs.Prelude.{IsSome, is_some, ◌&&◌}
-use Rattle.std.proofs.lemmas.Bool.{cases_lt, cases_Bool, leb-true, ltb-true, and_parts, and_from, le-leb, lt-ltb, false_from_ne_true, both_ways, true≢false}
+use Rattle.std.proofs.lemmas.Bool.{cases_lt, cases_Bool, leb-true, ltb-true, and_parts, leb-false, ltb-false, and_cases, false_from_ne_true, true≢false}
+use Rattle.std.specs.Ordering.{nat_cmp}
+use Rattle.std.specs.FinMap.{get-empty}
 use Rattle.elf_image.specs.declared.image.Segment.{Segment}
 use Rattle.elf_image.specs.Image.{backed_byte, is_backed_in}
-use Rattle.elf_image.specs.Layout.{AreApart, IsApartFrom, AreLaidOut}
+use Rattle.elf_image.specs.Layout.{IsPlaced, AreApart, IsApartFrom, AreLaidOut}
 use Rattle.dream_words.specs.Memory.{Mem, byte_at, with_byte, place, no_bytes}
 use Rattle.dream_words.proofs.Memories.{byte_at-with_byte_same, byte_at-with_byte_other}
 
@@ -51,3 +53,58 @@ past : (vs : List ℕ) (k : ℕ) → length vs ≤ k → get_or vs k 0 ≡ 0
 past [] k h = refl
 past (v ∷ vs) zero h = absurd (omega (arith, h))
 past (v ∷ vs) (suc k) h = past vs k (omega (arith, h))
+
+module _ (s : Segment) (m : Mem) (a : ℕ) where
+  -- the byte at an address of the segment
+  here : IsPlaced s → is_backed_in s a ≡ true → byte_at m a ≡ 0 → byte_at (place m s.at s.bytes) a ≡ get_or s.bytes (a - s.at) 0
+  here p b z =
+      let q = and_parts (nat_le s.at a) (nat_lt a (s.at + s.size)) b in
+      let above : s.at ≤ a = leb-true _ _ q.0 in
+      let le : s.at + length s.bytes ≤ 2 ^ 32 = omega (arith, p.within, p.given) in
+      elim (cases_lt (a - s.at) (length s.bytes)) [
+        | inl lt ↦
+            let e : s.at + (a - s.at) ≡ a = omega (arith, above) in
+            ap (byte_at (place m s.at s.bytes)) (sym e) ∙ place_same m s.at s.bytes (a - s.at) le lt
+        | inr ge ↦ place_other m s.at s.bytes a le (inr (omega (arith, above, ge))) ∙ z ∙ sym (past s.bytes (a - s.at) ge)
+      ]
+
+  -- the byte at another address
+  elsewhere : IsPlaced s → is_backed_in s a ≡ false → byte_at (place m s.at s.bytes) a ≡ byte_at m a
+  elsewhere p b =
+      let le : s.at + length s.bytes ≤ 2 ^ 32 = omega (arith, p.within, p.given) in
+      let out : (a < s.at) ⊎ (s.at + length s.bytes ≤ a) = elim (and_cases (nat_le s.at a) (nat_lt a (s.at + s.size)) b) [
+        | inl e ↦ inl (leb-false _ _ e)
+        | inr e ↦ inr (let f : s.at + s.size ≤ a = ltb-false _ _ e in omega (arith, f, p.given))
+      ] in
+      place_other m s.at s.bytes a le out
+
+some_none : (o : Option ℕ) → o ≡ None → IsSome o → ⊥
+some_none o e h = true≢false (sym h ∙ ap is_some e)
+
+-- each byte of segments that lie apart is put where the memory had 0
+pub placed_is : (ss : List Segment) (m : Mem) (a : ℕ) → AreLaidOut ss → (IsSome (backed_byte ss a) → byte_at m a ≡ 0)
+    → byte_at (placed m ss) a ≡ unwrap_or (backed_byte ss a) (byte_at m a)
+placed_is [] m a h z = refl
+placed_is (s ∷ ss) m a h z =
+    let next : Mem = place m s.at s.bytes in
+    let by : Bool → Option ℕ = λ u. cond u (Some (get_or s.bytes (a - s.at) 0)) (backed_byte ss a) in
+    elim (cases_Bool (is_backed_in s a)) [
+      | inl b ↦
+          let none = not_backed s ss a h.1 b in
+          let zero' : byte_at m a ≡ 0 = z (subst (λ u. IsSome (by u)) (sym b) refl) in
+          placed_is ss next a h.2 (λ some. absurd (some_none _ none some))
+          ∙ ap (λ o. unwrap_or o (byte_at next a)) none
+          ∙ here s m a h.0 b zero'
+          ∙ sym (ap (λ u. unwrap_or (by u) (byte_at m a)) b)
+      | inr b ↦
+          let same = elsewhere s m a h.0 b in
+          placed_is ss next a h.2 (λ some. same ∙ z (subst (λ u. IsSome (by u)) (sym b) some))
+          ∙ ap (unwrap_or (backed_byte ss a)) same
+          ∙ sym (ap (λ u. unwrap_or (by u) (byte_at m a)) b)
+    ]
+
+-- in a memory of zeros
+pub all_placed : (ss : List Segment) (a : ℕ) → AreLaidOut ss → byte_at (placed no_bytes ss) a ≡ unwrap_or (backed_byte ss a) 0
+all_placed ss a h =
+    let z : byte_at no_bytes a ≡ 0 = ap (λ (o : Option ℕ). unwrap_or o 0) (get-empty nat_cmp a) in
+    placed_is ss no_bytes a h (λ some. z) ∙ ap (unwrap_or (backed_byte ss a)) z
