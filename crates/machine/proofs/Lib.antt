@@ -4,3 +4,4 @@ pub mod Straying
 pub mod Fetching
 mod Stores
 mod Placed
+mod Running

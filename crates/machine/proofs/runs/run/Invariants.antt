@@ -11,5 +11,5 @@ use Rattle.machine.proofs.runs.run.Given as goal
 abbrev pub invariant-loop-step : goal.invariant-loop-step
 invariant-loop-step l =
     (decoded : ℕ → Option (Inst × ℕ)) → Decodes l.image l.range decoded
-    → steps State Ending (step_at (scene_of l.image l.range decoded l.start)) (l.steps - l.step) l.at (state_of l.answers l.machine)
+    → steps State Ending (step_at (scene_of l.image l.range decoded l.start)) (l.steps - l._step) l.at (state_of l.answers l.machine)
     ≡ steps State Ending (step_at (scene_of l.image l.range decoded l.start)) l.steps l.range.entry (start_state l.start l.answers)
