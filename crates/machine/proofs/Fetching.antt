@@ -1,6 +1,6 @@
 -- What the bytes from an address on begin with: one instruction at most, and within 15 bytes.
-use Rattle.std.proofs.Common.{◌≡◌, ℕ, zero, suc, ◌+◌, ◌-◌, ◌^◌, ◌<◌, ◌≤◌, inl, inr, Bool, true, false, nat_lt, List, [], ◌∷◌, ◌++◌, length, take, drop, Option, Some, None, Ok, min, refl, sym, ap, ◌∙◌, subst, arith, length-append, take-add, length-take, append-nil}
-use Rattle.std.specs.Prelude.{nat_le, ◌&&◌, if◌then◌else◌}
+use Rattle.std.proofs.Common.{◌≡◌, ℕ, zero, suc, ◌+◌, ◌-◌, ◌^◌, ◌<◌, ◌≤◌, inl, inr, Bool, true, nat_lt, List, [], ◌∷◌, ◌++◌, length, take, drop, Option, Some, None, Ok, min, refl, sym, ap, ◌∙◌, subst, arith, length-append, take-add, length-take, append-nil}
+use Rattle.std.specs.Prelude.{nat_le, if◌then◌else◌}
 use Rattle.std.proofs.lemmas.Bool.{cases_lt, and_parts, and_from, ltb-true, lt-ltb, le-leb}
 use Rattle.std.proofs.lemmas.List.{take_all}
 use Rattle.elf_image.specs.declared.image.Segment.{Segment}

@@ -1,12 +1,12 @@
 -- The bytes of segments that are put into a memory, one segment after another.
-use Rattle.std.proofs.Common.{◌≡◌, ℕ, zero, suc, ◌+◌, ◌-◌, ◌%◌, ◌^◌, ◌<◌, ◌≤◌, ◌⊎◌, inl, inr, Bool, true, false, cond, nat_le, nat_lt, List, [], ◌∷◌, length, get_or, Option, Some, None, unwrap_or, refl, sym, ap, subst, ◌∙◌, arith, add-zero}
-use Rattle.std.specs.Prelude.{IsSome, is_some, ◌&&◌}
+use Rattle.std.proofs.Common.{◌≡◌, ℕ, zero, suc, ◌+◌, ◌-◌, ◌%◌, ◌^◌, ◌<◌, ◌≤◌, ◌⊎◌, inl, inr, Bool, true, false, cond, nat_le, nat_lt, List, [], ◌∷◌, length, get_or, Option, Some, None, unwrap_or, refl, sym, ap, subst, ◌∙◌, arith}
+use Rattle.std.specs.Prelude.{IsSome, is_some}
 use Rattle.std.proofs.lemmas.Bool.{cases_lt, cases_Bool, leb-true, ltb-true, and_parts, leb-false, ltb-false, and_cases, false_from_ne_true, true≢false}
 use Rattle.std.specs.Ordering.{nat_cmp}
 use Rattle.std.specs.FinMap.{get-empty}
 use Rattle.elf_image.specs.declared.image.Segment.{Segment}
 use Rattle.elf_image.specs.Image.{backed_byte, is_backed_in}
-use Rattle.elf_image.specs.Layout.{IsPlaced, AreApart, IsApartFrom, AreLaidOut}
+use Rattle.elf_image.specs.Layout.{IsPlaced, IsApartFrom, AreLaidOut}
 use Rattle.dream_words.specs.Memory.{Mem, byte_at, with_byte, place, no_bytes}
 use Rattle.dream_words.proofs.Memories.{byte_at-with_byte_same, byte_at-with_byte_other}
 

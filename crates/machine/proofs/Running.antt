@@ -1,6 +1,6 @@
 -- How the steps that are left become one fewer.
-use Rattle.std.proofs.Common.{◌≡◌, ℕ, zero, suc, ◌+◌, ◌-◌, ◌<◌, ◌≤◌, refl, sym, ap, ◌∙◌, arith}
-use Rattle.x86_model.specs.Machine.{Onward, At, Finished, Strays, Blank, State, Ending}
+use Rattle.std.proofs.Common.{◌≡◌, ℕ, suc, ◌+◌, ◌-◌, ◌<◌, ◌≤◌, refl, ap, ◌∙◌, arith}
+use Rattle.x86_model.specs.Machine.{Onward, At, State, Ending}
 use Rattle.machine.specs.declared.states.Led.{Led}
 use Rattle.machine.specs.declared.states.Led.TheVariants.{To, Returned, Faulted, Asking, Strayed, Undecoded}
 use Rattle.machine.specs.Steps.{go_on, steps}

@@ -1,4 +1,4 @@
-use Rattle.std.proofs.Common.{◌≡◌, List, ℕ, ◌≤◌, length, take, ap, subst, ◌∙◌}
+use Rattle.std.proofs.Common.{◌≡◌, List, ℕ, ◌≤◌, length, take, subst, ◌∙◌}
 use Rattle.elf_image.specs.Range.{bytes_to_end}
 use Rattle.x86_inst.specs.Spelling.{Spells}
 use Rattle.x86_decode.specs.Decodes.{NoneBegins}

@@ -1,4 +1,4 @@
-use Rattle.std.proofs.Common.{◌≡◌, ◌+◌, ◌-◌, rules, arith, min, ap, ◌∙◌, take, true}
+use Rattle.std.proofs.Common.{◌≡◌, ◌+◌, ◌-◌, rules, min, ap, ◌∙◌, true}
 use Rattle.elf_image.specs.Range.{is_inside, bytes_to_end}
 use Rattle.machine.proofs.Fetching.{window_is}
 use Rattle.machine.proofs.settings.window.Goals as goal
