@@ -10,6 +10,8 @@ mod memory;
 mod runs;
 mod settings;
 mod states;
+#[cfg(test)]
+mod tests;
 
 pub use laws::{every_range_decodes, outcomes_stay, straying_is_exact};
 pub use memory::start_memory;
