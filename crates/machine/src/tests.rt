@@ -12,8 +12,9 @@ const ESP: u32 = 0xbfff_0000;
 /// An image of one segment at 0x08048000 that can't be written, with code at the entry.
 fn image(alloc: Global, code: &[u8]) -> Result<Image, Fail> {
     let size = u32::try_from(0x100 + code.len())?;
+    let memory_size = u32::try_from(0x110 + code.len())?;
     let header = [0x0003_0002, 1, ENTRY, 52, 0, 0, 0x0020_0034, 1, 0];
-    let segment = [1, 0, 0x0804_8000, 0x0804_8000, size, size + 16, 5, 4096];
+    let segment = [1, 0, 0x0804_8000, 0x0804_8000, size, memory_size, 5, 4096];
     let mut bytes = Vec::from_slice(alloc, b"\x7fELF\x01\x01\x01\0\0\0\0\0\0\0\0\0")?;
     for word in header {
         bytes.extend_from_slice(&u32::to_le_bytes(word))?;
@@ -161,5 +162,11 @@ fn an_answer_keeps_what_must_stay(rt: HostRuntime) -> Result<(), Fail> {
     let answers = answer(alloc, Memory::new(alloc))?;
     let outcome = run_code(alloc, code, 6, &answers, 1)?;
     assert_eq!(rt; told(&outcome), ("strayed", 0, 0));
+    Ok(())
+}
+#[test]
+fn bench(rt: HostRuntime) -> Result<(), Fail> {
+    let outcome = run_code(rt.alloc(), b"\xc7\x47\x04\x01\0\0\0\xeb\xf7", 9, &[], 200_000)?;
+    assert_eq!(rt; told(&outcome), ("going", 0, 0));
     Ok(())
 }
