@@ -1,3 +1,7 @@
 pub mod Beginnings
 pub mod Staying
 pub mod Straying
+pub mod Fetching
+mod Stores
+mod Placed
+mod Running

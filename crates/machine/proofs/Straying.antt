@@ -26,7 +26,7 @@ fails_below (suc n) test h = elim (and_cases (all_below n test) (test n) h) [
   | inr e ↦ (n, omega arith, e)
 ]
 
-holds_below : (n k : ℕ) (test : ℕ → Bool) → all_below n test ≡ true → k < n → test k ≡ true
+pub holds_below : (n k : ℕ) (test : ℕ → Bool) → all_below n test ≡ true → k < n → test k ≡ true
 holds_below zero k test h lt = absurd (omega (arith, lt))
 holds_below (suc n) k test h lt =
     let p = and_parts (all_below n test) (test n) h in
@@ -136,14 +136,14 @@ slot_stays s old new k h lt =
 
 -- ---- both
 
-breaks : (m : List Segment) (s : ℕ) (old new : Mem) → is_broken m s old new ≡ true → Breaks m s old new
+pub breaks : (m : List Segment) (s : ℕ) (old new : Mem) → is_broken m s old new ≡ true → Breaks m s old new
 unfolding Changes SlotChanges
 breaks m s old new h = elim (and_cases (keeps_frozen m old new) (keeps_slot s old new) (not-true _ h)) [
   | inl e ↦ inl (frozen_changes m old new e)
   | inr e ↦ inr (slot_changes s old new e)
 ]
 
-broken : (m : List Segment) (s : ℕ) (old new : Mem) → Breaks m s old new → is_broken m s old new ≡ true
+pub broken : (m : List Segment) (s : ℕ) (old new : Mem) → Breaks m s old new → is_broken m s old new ≡ true
 broken m s old new h = elim (cases_Bool (keeps_frozen m old new && keeps_slot s old new)) [
   | inl e ↦
       let p = and_parts (keeps_frozen m old new) (keeps_slot s old new) e in

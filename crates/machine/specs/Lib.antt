@@ -2,3 +2,5 @@ pub mod Steps
 pub mod Code
 pub mod Run
 pub mod Laws
+pub mod Held
+pub mod Coded

@@ -1,8 +1,20 @@
 //! The machine: what a range of an image does, instruction by instruction, from any start and with any answers.
-//! Given are the frozen bytes of an image and a range of addresses in it.
-//! Promised are, as laws on the definitions, that each range has its instructions, and when a step strays.
+//! Given are the frozen bytes of an image and a range of addresses in it, a start and answers.
+//! Promised are the outcome for each number of steps, and, as laws on the definitions, that each range has its
+//! instructions, and when a step strays.
 #![tactic(auto)]
 
+mod held;
 mod laws;
+mod memory;
+mod runs;
+mod settings;
+mod states;
+#[cfg(test)]
+mod tests;
 
 pub use laws::{every_range_decodes, outcomes_stay, straying_is_exact};
+pub use memory::start_memory;
+pub use runs::run;
+pub use settings::Setting;
+pub use states::{Led, Machine};
