@@ -23,7 +23,8 @@ use Rattle.flow_graph.specs.Discovery.{firsts, IsDiscovered}
 use Rattle.flow_graph.proofs.Firsts.{distinct_firsts, few_in_row}
 use Rattle.flow_graph.proofs.Walked.{has_contains, reached_bounds}
 use Rattle.flow_graph.proofs.Reading.{inside_at, code_at}
-use Rattle.range_flow.specs.Lifting.{CanBeLifted, leaves_bare}
+use Rattle.range_flow.specs.Lifting.{CanBeLifted}
+use Rattle.lift.specs.Given.{leaves_bare}
 use Rattle.range_flow.proofs.RangePlan.{all_by}
 
 -- ---- a range that is frozen as a whole

@@ -1,18 +1,12 @@
 -- When blocks are those of the instruction that some code begins with.
-use Rattle.std.specs.Prelude.{◌≡◌, ℕ, ◌+◌, ◌-◌, ◌%◌, ◌^◌, ◌<◌, ◌≤◌, Bool, true, List, take, drop, length}
+use Rattle.std.specs.Prelude.{◌≡◌, ℕ, ◌+◌, ◌-◌, ◌%◌, ◌^◌, ◌<◌, ◌≤◌, true, List, take, drop, length}
 use Rattle.x86_inst.specs.declared.Inst.{Inst}
-use Rattle.x86_inst.specs.declared.Inst.TheVariants as i
-use Rattle.x86_model.specs.Rows.{is_bare}
 use Rattle.x86_inst.specs.Spelling.{Spells}
 use Rattle.x86_decode.specs.Decodes.{NoneBegins}
 use Rattle.x86_model.specs.Successors.{successors_of}
 use Rattle.lift_parts.specs.Lifted.{AreBlocksOf}
+use Rattle.lift.specs.Given.{leaves_bare}
 use Rattle.range_flow.specs.declared.lifted.Lifted.{Lifted}
-
--- Stands for `leaves_bare` of `lift`.
-abbrev pub leaves_bare : Inst → Bool
-leaves_bare (i.JmpTo s) = is_bare s
-leaves_bare _ = true
 
 -- They are made for the instruction that the code from an address on begins with.
 pub record IsLiftedFrom (code : List ℕ) (at : ℕ) (l : Lifted) : Type 0 where

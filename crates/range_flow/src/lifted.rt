@@ -2,15 +2,15 @@
 
 ghost use Rattle.std.specs.Prelude.{◌≡◌, ℕ, ◌+◌, ◌%◌, ◌^◌, ◌≤◌, true, take, length, IfOk};
 ghost use Rattle.x86_decode.specs.Decodes.{NoneBegins};
-ghost use Rattle.x86_formed.specs.Formed.{HasSpelling};
 ghost use Rattle.x86_inst.specs.declared.Inst.{Inst};
 ghost use Rattle.x86_inst.specs.Spelling.{Spells};
-ghost use Rattle.lift_parts.specs.Lifted.{AreBlocksOf};
 ghost use Rattle.range_flow.specs.Nodes.{piece_of, leave_piece};
-ghost use Rattle.range_flow.specs.Lifting.{IsLiftedFrom, leaves_bare};
+ghost use Rattle.lift.specs.Given.{leaves_bare};
+ghost use Rattle.range_flow.specs.Lifting.{IsLiftedFrom};
 
 use crate::successors::successors;
 use c_words::num;
+use lift::lift;
 use micro_ir::{Block, End};
 use smallvec::SmallVec;
 use sqlite_items::Items;
@@ -24,15 +24,6 @@ pub struct Lifted {
     pub at: u32,
     pub blocks: Vec<Block>,
     pub successors: SmallVec<u32, 2>,
-}
-
-// Stands for `lift::lift` until that takes every instruction.
-fn lift(_alloc: Global, i: &Inst, _at: u32, _next: u32) -> Result<Vec<Block>, AllocError>
-    requires { leaves_bare i.now ≡ true }
-    ensures { IfOk result (λ blocks. HasSpelling i.now → AreBlocksOf i.now _at _next blocks.items) }
-{
-    let _inst = i;
-    Err(AllocError)
 }
 
 /// The blocks of the instruction that the code from an address on begins with. If it is a jump by a word, then through a bare
