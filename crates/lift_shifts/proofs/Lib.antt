@@ -1,0 +1,5 @@
+mod CountWords
+mod Results
+mod Outs
+mod Taken
+mod Setting
