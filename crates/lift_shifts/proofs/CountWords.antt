@@ -69,10 +69,10 @@ one_back W = refl
 below_32 : (x : ℕ) → x % 32 < 32
 below_32 x = omega arith
 
-less_below : (x : ℕ) → x % 32 - 1 < 32
+pub less_below : (x : ℕ) → x % 32 - 1 < 32
 less_below x = omega arith
 
-top_below : (size : Size) → bits_of size - 1 < 32
+pub top_below : (size : Size) → bits_of size - 1 < 32
 top_below B = lit< tt
 top_below H = lit< tt
 top_below W = lit< tt

@@ -3,3 +3,8 @@ mod Results
 mod Outs
 mod Taken
 mod Setting
+mod Given
+mod Leading
+mod Filled
+mod Fitting
+pub mod Whole

@@ -51,8 +51,8 @@ split_pow x bits c h =
     ap (λ k. x * 2 ^ c / 2 ^ k) (sym e) ∙ ap (λ d. x * 2 ^ c / d) (pow-add 2 (bits - c) c) ∙ mul-div-mul_right x (2 ^ (bits - c)) (pow_pos c)
 
 -- out of a shift to the left
-pub left_out : (x bits c : ℕ) → c ≤ bits → bit_and (x / 2 ^ (bits - c)) 1 ≡ bit_of (nat_eq (x * 2 ^ c / 2 ^ bits % 2) 1)
-left_out x bits c h = lowest_is (x / 2 ^ (bits - c)) ∙ ap (λ y. bit_of (nat_eq (y % 2) 1)) (sym (split_pow x bits c h))
+pub left_out : (x bits c : ℕ) → c ≤ bits → nat_eq (x / 2 ^ (bits - c) % 2) 1 ≡ nat_eq (x * 2 ^ c / 2 ^ bits % 2) 1
+left_out x bits c h = ap (λ y. nat_eq (y % 2) 1) (sym (split_pow x bits c h))
 
 -- the lowest bit is one of the low part
 low_parity : (size : Size) (y : ℕ) → low_part (bits_of size) y % 2 ≡ y % 2

@@ -122,9 +122,6 @@ ror_is size x k h =
 pub double_left_is : (x y c : ℕ) → c < 32 → low_part 32 (low_part 32 (x * 2 ^ c) + y / 2 ^ (31 - c) / 2) ≡ double_value true x y c
 double_left_is x y c h =
     sum_low W (x * 2 ^ c) (y / 2 ^ (31 - c) / 2) ∙ ap (λ q. (x * 2 ^ c + q) % 2 ^ 32) (once_more y (31 - c) (32 - c) (next_back 32 c h))
-  where
-    sum : (a b : ℕ) → low_part 32 (low_part 32 a + b) ≡ low_part 32 (a + b)
-    sum a b = omega arith
 
 swapped_sum : (a b : ℕ) → low_part 32 (low_part 32 a + b) ≡ low_part 32 (b + a)
 swapped_sum a b = omega arith
@@ -138,6 +135,9 @@ double_right_is x y c h =
 sar_fits : (s : Bool) (bits x c : ℕ) → x < 2 ^ bits → signed_by_sign s bits x c < 2 ^ bits
 sar_fits true bits x c h = let p : 0 < 2 ^ bits = pow_pos bits in omega arith
 sar_fits false bits x c h = still_below (2 ^ bits) x (x / 2 ^ c) h (div-le_self x (2 ^ c))
+
+pub signed_fits : (x c : ℕ) → x < 2 ^ 32 → shifted_signed x c < 2 ^ 32
+signed_fits x c h = sar_fits (sign_bit 32 x) 32 x c h
 
 pub shift_fits : (f : ShiftOp) (bits x c : ℕ) → x < 2 ^ bits → shift_value f bits x c < 2 ^ bits
 shift_fits Shl bits x c h = mod_below (x * 2 ^ c) (2 ^ bits) (pow_pos bits)
