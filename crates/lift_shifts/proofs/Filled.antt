@@ -32,7 +32,7 @@ use Rattle.lift_shifts.proofs.CountWords.{back_is, count_below, count_is}
 use Rattle.lift_shifts.proofs.Given.{left_gives, left_sum, right_gives, right_sum, tops_differ}
 use Rattle.lift_shifts.proofs.Leading.{GiveShift, all_counted, is_zero, not_zero}
 use Rattle.lift_shifts.proofs.Outs.{left_out}
-use Rattle.lift_shifts.proofs.Results.{double_fits, double_left_is, double_none_is, double_right_is}
+use Rattle.lift_shifts.proofs.Shifted.{double_fits, double_left_is, double_none_is, double_right_is}
 use Rattle.lift_shifts.proofs.Setting.{are_by_result, gives_where, temp_is}
 use Rattle.lift_shifts.proofs.Taken.{Gives, Taken}
 

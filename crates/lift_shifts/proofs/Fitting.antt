@@ -155,10 +155,14 @@ over_fit Ror size = differ_fit size _ (lowest_fit 3 _ (lit≤ tt) (shr_fit 2 (te
 
 -- ---- flags
 
+as_many : (a b : ℕ) (ss : List Stmt) → a ≡ b → AreFit a ss → AreFit b ss
+as_many a b ss e h = subst (λ k. AreFit k ss) e h
+
 -- a name other than a base is set
 sets_fit : (d : ℕ) (k : Name) (e : CExpr) (rest : List Stmt) (stores : ℕ) → d ≤ 64 → IsTrue (is_flow_target k) → IsFit d e → AreFit stores rest → AreFit stores (stmt.Set k e ∷ rest)
 sets_fit d k e rest stores h t f r =
-    more_fit (stmt.Set k e) rest stores 0 (both_hold (is_flow_target k) (is_flow_word e) t (fit_word d e h f)) f.safe refl refl r
+    as_many (0 + stores) stores (stmt.Set k e ∷ rest) (omega arith)
+    (more_fit (stmt.Set k e) rest stores 0 (both_hold (is_flow_target k) (is_flow_word e) t (fit_word d e h f)) f.safe refl refl r)
 
 conditional_fit : (c : Count) (k : ℕ) (e : CExpr) → IsTrue (is_flow_name (name.Flag k)) → IsFit 5 e → IsFit 6 (conditional c k e)
 conditional_fit n.Cl k e t f =
@@ -196,9 +200,6 @@ takes_fit : (size : Size) (d : Operand) → IsTrue (is_formed_operand d) → Are
 takes_fit size (o.Mem m) h = reads_fit size (o.Mem m) h
 takes_fit size (o.Reg k) h = sets_fit 3 (name.T 0) (value_word size (o.Reg k)) [] 0 (lit≤ tt) refl (value_fit size (o.Reg k) h) none_fit
 takes_fit size (o.Imm k) h = sets_fit 3 (name.T 0) (value_word size (o.Imm k)) [] 0 (lit≤ tt) refl (value_fit size (o.Imm k) h) none_fit
-
-as_many : (a b : ℕ) (ss : List Stmt) → a ≡ b → AreFit a ss → AreFit b ss
-as_many a b ss e h = subst (λ k. AreFit k ss) e h
 
 computes_fit : (size : Size) (d : Operand) (flags : List Stmt) (e : CExpr) → IsTrue (is_formed_operand d) → AreFit 0 flags → IsFit 7 e
     → AreFit (once (is_memory d)) (takes size d ++ computes size d flags e)

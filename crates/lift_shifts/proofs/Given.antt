@@ -33,7 +33,7 @@ use Rattle.lift_shifts.specs.Counts.{back_word, before_word, count_word, rest_wo
 use Rattle.lift_shifts.specs.Shifts.{carry_word, lowest_word, over_word, rotates, shift_word}
 use Rattle.lift_shifts.proofs.CountWords.{back_below, back_is, before_is, below_size, count_below, count_is, rest_is, turns_below, turns_is}
 use Rattle.lift_shifts.proofs.Outs.{left_out, lowest_is, out_by_one, second_is, signed_out, xor_of_bits}
-use Rattle.lift_shifts.proofs.Results.{low_low, rol_is, ror_is, sar_is, signed_fits, shift_fits}
+use Rattle.lift_shifts.proofs.Shifted.{low_low, rol_is, ror_is, sar_is, signed_fits, shift_fits}
 use Rattle.lift_shifts.proofs.Setting.{GiveFlags, are_by_result, gives_truth, gives_where, temp_is, top_word_is}
 use Rattle.lift_shifts.proofs.Taken.{Gives, Seen, Taken}
 

@@ -35,7 +35,7 @@ use Rattle.lift_blocks.proofs.Common.{Begins, by_step, leads_next}
 use Rattle.lift_shifts.specs.Shifts.{carry_word, over_word, rotates, sets_shifted, shift_stmts, shift_word, takes}
 use Rattle.lift_shifts.proofs.CountWords.{by_cl}
 use Rattle.lift_shifts.proofs.Given.{over_undefined, shift_gives, shift_word_is}
-use Rattle.lift_shifts.proofs.Results.{shift_fits, shift_none_is}
+use Rattle.lift_shifts.proofs.Shifted.{shift_fits, shift_none_is}
 use Rattle.lift_shifts.proofs.Setting.{GiveFlags, all_set, flags_after}
 use Rattle.lift_shifts.proofs.Taken.{Taken, computes_to}
 
@@ -70,8 +70,8 @@ none_counted (n.Imm k) size d x v f a e = ap (λ z. counted z (n.Imm k) size d x
 none_counted n.Cl size d x v f a e = absurd cc
 
 -- What is given of the words of a shift: the result, and, where the count isn't 0, the flags.
-pub record GiveShift (a : Step) (x v : ℕ) (rotates : Bool) (size : Size) (c : Count) (result carry over : CExpr) (f : Flags) : Type 0 where
-  pub result : (u : Names) → Taken a x u → word_of result u ≡ Some v
+pub record GiveShift (a : Step) (x v : ℕ) (rotates : Bool) (size : Size) (c : Count) (word carry over : CExpr) (f : Flags) : Type 0 where
+  pub result : (u : Names) → Taken a x u → word_of word u ≡ Some v
   pub fits : v < 2 ^ bits_of size
   pub none : nat_eq (count_of c a) 0 ≡ true → v ≡ x
   pub flags : nat_eq (count_of c a) 0 ≡ false → GiveFlags a x v rotates size c carry over f
@@ -92,8 +92,8 @@ flags_none false f g = refl
 flags_some : (rotates : Bool) (f g : Flags) → (rotates ≡ true → (g.p ≡ f.p) × (g.z ≡ f.z) × (g.s ≡ f.s)) → flags_after rotates false f g ≡ g
 flags_some true f g h =
     ap (λ k. record { c = g.c; p = k; z = f.z; s = f.s; o = g.o }) (sym (h refl).0)
-    ∙ ap (λ k. record { c = g.c; p = g.p; z = k; s = f.s; o = g.o }) (sym (h refl).1.0)
-    ∙ ap (λ k. record { c = g.c; p = g.p; z = g.z; s = k; o = g.o }) (sym (h refl).1.1)
+    ∙ ap (λ k. record { c = g.c; p = g.p; z = k; s = f.s; o = g.o }) (sym (h refl).1)
+    ∙ ap (λ k. record { c = g.c; p = g.p; z = g.z; s = k; o = g.o }) (sym (h refl).2)
 flags_some false f g h = refl
 
 module _ (x : Inst) (a : Step) (w : World) (b : Begins x a w) (rotates : Bool) (size : Size) (d : Operand) (c : Count) (result carry over : CExpr) (v : ℕ) (f : Flags)

@@ -1,5 +1,5 @@
 mod CountWords
-mod Results
+mod Shifted
 mod Outs
 mod Taken
 mod Setting

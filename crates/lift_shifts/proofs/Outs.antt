@@ -10,7 +10,7 @@ use Rattle.x86_inst.specs.declared.Size.{Size}
 use Rattle.x86_inst.specs.declared.Size.TheVariants.{B, H, W}
 use Rattle.x86_model.specs.Operands.{bits_of}
 use Rattle.x86_model.specs.Arithmetic.{shifted_signed_at}
-use Rattle.lift_shifts.proofs.Results.{sar_is}
+use Rattle.lift_shifts.proofs.Shifted.{sar_is}
 
 -- ---- bits
 

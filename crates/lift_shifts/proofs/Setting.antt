@@ -143,9 +143,9 @@ over_stands true old b y h e = h
 over_stands false old b y h e = subst (λ b. StandsFor b y) (sym e) tt
 
 -- what is given of the words of the flags
-pub record GiveFlags (a : Step) (x r : ℕ) (rotates : Bool) (size : Size) (c : Count) (carry over : CExpr) (f : Flags) : Type 0 where
-  pub carry : (v : Names) → Seen a x r v → Gives f.c carry v
-  pub over : (v : Names) → Seen a x r v → Gives f.o over v
+pub record GiveFlags (a : Step) (x r : ℕ) (rotates : Bool) (size : Size) (c : Count) (ec eo : CExpr) (f : Flags) : Type 0 where
+  pub carry : (v : Names) → Seen a x r v → Gives f.c ec v
+  pub over : (v : Names) → Seen a x r v → Gives f.o eo v
   pub result : rotates ≡ false → (v : Names) → Seen a x r v → AreByResult size r f v
 
 module _ (a : Step) (x r : ℕ) (size : Size) (c : Count) (z : Bool) (some : is_none c ≡ false) (counted : nat_eq (count_of c a) 0 ≡ z) where
@@ -154,24 +154,24 @@ module _ (a : Step) (x r : ℕ) (size : Size) (c : Count) (z : Bool) (some : is_
       → (z ≡ false → (v : Names) → Seen a x r v → Gives b over v) → (w : World) → Known a x r a.flags w.names
       → ((u : World) → Known a x r (record a.flags { o = unless z a.flags.o b }) u.names → Sets a x r g rest u)
       → Sets a x r g ((if t then sets_flag c 4 over ∷ [] else []) ++ rest) w
-  over_set over b rest g true m undefined gives w k then =
+  over_set over b rest g true m undefined gives w k on =
       sets_over a x r a.flags g (unless z a.flags.o b) (conditional c 4 over) rest w
-      (conditional_gives a x r c z some counted 4 over a.flags.o b w.names k.seen k.flags.o (λ e. gives e w.names k.seen)) k then
-  over_set over b rest g false m undefined gives w k then =
-      then w (leaves_over a x r a.flags (unless z a.flags.o b) w.names (over_stands z a.flags.o b (w.names (name.Flag 4)) k.flags.o (undefined (not_one c a m))) k)
+      (conditional_gives a x r c z some counted 4 over a.flags.o b w.names k.seen k.flags.o (λ e. gives e w.names k.seen)) k on
+  over_set over b rest g false m undefined gives w k on =
+      on w (leaves_over a x r a.flags (unless z a.flags.o b) w.names (over_stands z a.flags.o b (w.names (name.Flag 4)) k.flags.o (undefined (not_one c a m))) k)
 
   -- SF, ZF and PF, and the rest
   result_set : (f b g : Flags) (rest : List Stmt) (w : World) → (z ≡ false → (v : Names) → Seen a x r v → AreByResult size r b v)
       → Known a x r f w.names
       → ((u : World) → Known a x r (record f { s = unless z f.s b.s; z = unless z f.z b.z; p = unless z f.p b.p }) u.names → Sets a x r g rest u)
       → Sets a x r g (sets_result size c ++ rest) w
-  result_set f b g rest w gives k then =
+  result_set f b g rest w gives k on =
       sets_sign a x r f g (unless z f.s b.s) (conditional c 3 (top_word (bits_of size) (temp 2))) _ w
       (conditional_gives a x r c z some counted 3 (top_word (bits_of size) (temp 2)) f.s b.s w.names k.seen k.flags.s (λ e. (gives e w.names k.seen).sign)) k (λ w3 k3.
       sets_zero a x r (record f { s = unless z f.s b.s }) g (unless z f.z b.z) (conditional c 2 (zero_word (temp 2))) _ w3
       (conditional_gives a x r c z some counted 2 (zero_word (temp 2)) f.z b.z w3.names k3.seen k3.flags.z (λ e. (gives e w3.names k3.seen).zero)) k3 (λ w2 k2.
       sets_parity a x r (record f { s = unless z f.s b.s; z = unless z f.z b.z }) g (unless z f.p b.p) (conditional c 1 (even_word (temp 2))) rest w2
-      (conditional_gives a x r c z some counted 1 (even_word (temp 2)) f.p b.p w2.names k2.seen k2.flags.p (λ e. (gives e w2.names k2.seen).parity)) k2 then))
+      (conditional_gives a x r c z some counted 1 (even_word (temp 2)) f.p b.p w2.names k2.seen k2.flags.p (λ e. (gives e w2.names k2.seen).parity)) k2 on))
 
   -- CF alone
   carry_set : (f : Flags) (carry : CExpr) (b : Bit) (w : World) → (z ≡ false → (v : Names) → Seen a x r v → Gives b carry v) → Known a x r f w.names

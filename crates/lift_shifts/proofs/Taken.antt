@@ -75,35 +75,35 @@ seen_flag a x r v n y l h = record {
 sets_one : (a : Step) (x r : ℕ) (f g : Flags) (n : ℕ) (b : Bit) (e : CExpr) (rest : List Stmt) (w : World) → Gives b e w.names → Seen a x r w.names
     → ((y : ℕ) → StandsFor b y → FlagsStand f (with_name w.names (name.Flag n) y))
     → ((u : World) → Known a x r f u.names → Sets a x r g rest u) → Sets a x r g (stmt.Set (name.Flag n) e ∷ rest) w
-sets_one a x r f g n b e rest w gives seen stands then =
+sets_one a x r f g n b e rest w gives seen stands on =
     let (y, is, small, for_bit) = gives in
-    let (u, runs, known, same) = then (set_word (name.Flag n) y w) (record { seen = seen_flag a x r w.names n y small seen; flags = stands y for_bit }) in
+    let (u, runs, known, same) = on (set_word (name.Flag n) y w) (record { seen = seen_flag a x r w.names n y small seen; flags = stands y for_bit }) in
     (u, set_runs (name.Flag n) e y is runs, known, record { mem = same.mem; left = same.left; calls = same.calls })
 
 pub sets_carry : (a : Step) (x r : ℕ) (f g : Flags) (b : Bit) (e : CExpr) (rest : List Stmt) (w : World) → Gives b e w.names → Known a x r f w.names
     → ((u : World) → Known a x r (record f { c = b }) u.names → Sets a x r g rest u) → Sets a x r g (stmt.Set (name.Flag 0) e ∷ rest) w
-sets_carry a x r f g b e rest w gives k then =
-    sets_one a x r (record f { c = b }) g 0 b e rest w gives k.seen (λ y h. record { c = h; p = k.flags.p; z = k.flags.z; s = k.flags.s; o = k.flags.o }) then
+sets_carry a x r f g b e rest w gives k on =
+    sets_one a x r (record f { c = b }) g 0 b e rest w gives k.seen (λ y h. record { c = h; p = k.flags.p; z = k.flags.z; s = k.flags.s; o = k.flags.o }) on
 
 pub sets_parity : (a : Step) (x r : ℕ) (f g : Flags) (b : Bit) (e : CExpr) (rest : List Stmt) (w : World) → Gives b e w.names → Known a x r f w.names
     → ((u : World) → Known a x r (record f { p = b }) u.names → Sets a x r g rest u) → Sets a x r g (stmt.Set (name.Flag 1) e ∷ rest) w
-sets_parity a x r f g b e rest w gives k then =
-    sets_one a x r (record f { p = b }) g 1 b e rest w gives k.seen (λ y h. record { c = k.flags.c; p = h; z = k.flags.z; s = k.flags.s; o = k.flags.o }) then
+sets_parity a x r f g b e rest w gives k on =
+    sets_one a x r (record f { p = b }) g 1 b e rest w gives k.seen (λ y h. record { c = k.flags.c; p = h; z = k.flags.z; s = k.flags.s; o = k.flags.o }) on
 
 pub sets_zero : (a : Step) (x r : ℕ) (f g : Flags) (b : Bit) (e : CExpr) (rest : List Stmt) (w : World) → Gives b e w.names → Known a x r f w.names
     → ((u : World) → Known a x r (record f { z = b }) u.names → Sets a x r g rest u) → Sets a x r g (stmt.Set (name.Flag 2) e ∷ rest) w
-sets_zero a x r f g b e rest w gives k then =
-    sets_one a x r (record f { z = b }) g 2 b e rest w gives k.seen (λ y h. record { c = k.flags.c; p = k.flags.p; z = h; s = k.flags.s; o = k.flags.o }) then
+sets_zero a x r f g b e rest w gives k on =
+    sets_one a x r (record f { z = b }) g 2 b e rest w gives k.seen (λ y h. record { c = k.flags.c; p = k.flags.p; z = h; s = k.flags.s; o = k.flags.o }) on
 
 pub sets_sign : (a : Step) (x r : ℕ) (f g : Flags) (b : Bit) (e : CExpr) (rest : List Stmt) (w : World) → Gives b e w.names → Known a x r f w.names
     → ((u : World) → Known a x r (record f { s = b }) u.names → Sets a x r g rest u) → Sets a x r g (stmt.Set (name.Flag 3) e ∷ rest) w
-sets_sign a x r f g b e rest w gives k then =
-    sets_one a x r (record f { s = b }) g 3 b e rest w gives k.seen (λ y h. record { c = k.flags.c; p = k.flags.p; z = k.flags.z; s = h; o = k.flags.o }) then
+sets_sign a x r f g b e rest w gives k on =
+    sets_one a x r (record f { s = b }) g 3 b e rest w gives k.seen (λ y h. record { c = k.flags.c; p = k.flags.p; z = k.flags.z; s = h; o = k.flags.o }) on
 
 pub sets_over : (a : Step) (x r : ℕ) (f g : Flags) (b : Bit) (e : CExpr) (rest : List Stmt) (w : World) → Gives b e w.names → Known a x r f w.names
     → ((u : World) → Known a x r (record f { o = b }) u.names → Sets a x r g rest u) → Sets a x r g (stmt.Set (name.Flag 4) e ∷ rest) w
-sets_over a x r f g b e rest w gives k then =
-    sets_one a x r (record f { o = b }) g 4 b e rest w gives k.seen (λ y h. record { c = k.flags.c; p = k.flags.p; z = k.flags.z; s = k.flags.s; o = h }) then
+sets_over a x r f g b e rest w gives k on =
+    sets_one a x r (record f { o = b }) g 4 b e rest w gives k.seen (λ y h. record { c = k.flags.c; p = k.flags.p; z = k.flags.z; s = k.flags.s; o = h }) on
 
 -- where OF isn't set, it is what may stand there
 pub leaves_over : (a : Step) (x r : ℕ) (f : Flags) (b : Bit) (v : Names) → StandsFor b (v (name.Flag 4)) → Known a x r f v → Known a x r (record f { o = b }) v
@@ -115,7 +115,7 @@ sets_nothing a x r f w k = (w, none_run w, k, record { mem = refl; left = refl; 
 
 -- ---- the operand is taken
 
--- what is known then
+-- what is known on
 pub record TakenFrom (a : Step) (x : ℕ) (w u : World) : Type 0 where
   pub taken : Taken a x u.names
   pub flags : FlagsStand a.flags u.names
@@ -189,5 +189,5 @@ computes_to size d e r value a f flags w names bytes shows stand first word fits
     let (last, ends, written) = writes_run size d (temp 2) (t.names (name.T 2)) value a (done a f) t known.seen.taken.names known.seen.taken.shows known.seen.taken.shows.regs refl
     (name_value t.names (name.T 2)) (known.seen.taken.names.words (name.T 2)) (ap (low_part (bits_of size)) (known.seen.result ∙ is)) in
     leads_next (put size d value a (done a f)) (state_in w a.flags) (takes size d ++ computes size d flags e) w last (put_go size d value a (done a f))
-    (runs_append (takes size d) (computes size d flags e) runs (set_runs (name.T 2) e r (word u.names from.taken) (runs_append flags (writes size d (temp 2)) more ends)))
+    (runs_append (takes size d) (computes size d flags e) runs (set_runs {u = last} (name.T 2) e r (word u.names from.taken) (runs_append flags (writes size d (temp 2)) more ends)))
     (ends_stand size d value a x r f w u t last shows from.same (record { mem = same.mem; left = same.left; calls = same.calls }) known written)

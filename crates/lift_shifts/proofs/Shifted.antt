@@ -119,9 +119,12 @@ ror_is size x k h =
 
 -- ---- double shifts
 
+word_sum : (a b : ℕ) → low_part 32 (low_part 32 a + b) ≡ low_part 32 (a + b)
+word_sum a b = omega arith
+
 pub double_left_is : (x y c : ℕ) → c < 32 → low_part 32 (low_part 32 (x * 2 ^ c) + y / 2 ^ (31 - c) / 2) ≡ double_value true x y c
 double_left_is x y c h =
-    sum_low W (x * 2 ^ c) (y / 2 ^ (31 - c) / 2) ∙ ap (λ q. (x * 2 ^ c + q) % 2 ^ 32) (once_more y (31 - c) (32 - c) (next_back 32 c h))
+    word_sum (x * 2 ^ c) (y / 2 ^ (31 - c) / 2) ∙ ap (λ q. (x * 2 ^ c + q) % 2 ^ 32) (once_more y (31 - c) (32 - c) (next_back 32 c h))
 
 swapped_sum : (a b : ℕ) → low_part 32 (low_part 32 a + b) ≡ low_part 32 (b + a)
 swapped_sum a b = omega arith
