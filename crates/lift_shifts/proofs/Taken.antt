@@ -189,5 +189,5 @@ computes_to size d e r value a f flags w names bytes shows stand first word fits
     let (last, ends, written) = writes_run size d (temp 2) (t.names (name.T 2)) value a (done a f) t known.seen.taken.names known.seen.taken.shows known.seen.taken.shows.regs refl
     (name_value t.names (name.T 2)) (known.seen.taken.names.words (name.T 2)) (ap (low_part (bits_of size)) (known.seen.result ∙ is)) in
     leads_next (put size d value a (done a f)) (state_in w a.flags) (takes size d ++ computes size d flags e) w last (put_go size d value a (done a f))
-    (runs_append (takes size d) (computes size d flags e) runs (set_runs {u = last} (name.T 2) e r (word u.names from.taken) (runs_append flags (writes size d (temp 2)) more ends)))
+    (runs_append {t = last} (takes size d) (computes size d flags e) runs (set_runs {u = last} (name.T 2) e r (word u.names from.taken) (runs_append {t = last} flags (writes size d (temp 2)) more ends)))
     (ends_stand size d value a x r f w u t last shows from.same (record { mem = same.mem; left = same.left; calls = same.calls }) known written)
