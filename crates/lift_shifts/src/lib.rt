@@ -8,7 +8,7 @@ mod conditions;
 mod results;
 mod shifting;
 
-ghost use Rattle.std.specs.Prelude.{◌≡◌, ℕ, ◌<◌, ◌^◌, [], ◌∷◌, IfOk};
+ghost use Rattle.std.specs.Prelude.{ℕ, ◌<◌, ◌^◌, [], ◌∷◌, IfOk};
 ghost use Rattle.lift_parts.specs.Lifted.{AreBlocksOf};
 ghost use Rattle.x86_formed.specs.Formed.{HasSpelling};
 ghost use Rattle.x86_inst.specs.declared.Inst.TheVariants as inst;
@@ -43,11 +43,4 @@ pub fn double_shift(
     ensures { IfOk result (λ b. (next : ℕ) → next < 2 ^ 32 → HasSpelling (inst.DShift left d g count) → AreBlocksOf (inst.DShift left d g count) at next (b ∷ [])) }
 {
     shifting::double_block(alloc, at, left, d, g, count)
-}
-
-// A probe.
-fn probe() -> u32
-    ensures { result ≡ 0 }
-{
-    0
 }
