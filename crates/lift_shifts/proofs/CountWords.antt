@@ -23,11 +23,6 @@ use Rattle.lift_shifts.specs.Counts.{count_word, before_word, rest_word, turns_w
 
 -- ---- numbers
 
-size_small : (size : Size) → bits_of size ≤ 32
-size_small B = lit≤ tt
-size_small H = lit≤ tt
-size_small W = lit≤ tt
-
 pub below_size : (size : Size) (c : ℕ) → c % bits_of size < bits_of size
 below_size B c = omega arith
 below_size H c = omega arith
@@ -66,7 +61,7 @@ one_back B = refl
 one_back H = refl
 one_back W = refl
 
-below_32 : (x : ℕ) → x % 32 < 32
+pub below_32 : (x : ℕ) → x % 32 < 32
 below_32 x = omega arith
 
 pub less_below : (x : ℕ) → x % 32 - 1 < 32
@@ -122,7 +117,7 @@ rest_is size a v h s n.Cl =
     let y : ℕ = low_part 32 (bits_of size + 2 ^ 32 - r) in (
       y % 32,
       bin_value v op.And (bin op.Sub (num (bits_of size)) (reg 1)) (num 31) y 31
-      (bin_value v op.Sub (num (bits_of size)) (reg 1) (bits_of size) r (num_value v (bits_of size)) (name_value v (name.Reg 1))) (num_value v 31) ∙ ap Some (and_mask y 5),
+          (bin_value v op.Sub (num (bits_of size)) (reg 1) (bits_of size) r (num_value v (bits_of size)) (name_value v (name.Reg 1))) (num_value v 31) ∙ ap Some (and_mask y 5),
       below_32 y,
       subst (λ e. 0 < e % 32 → e % 32 ≤ bits_of size → low_part 32 (bits_of size + 2 ^ 32 - r) % 32 ≡ bits_of size - e % 32) (ecx_is a v s) (rest_number size r (h.words (name.Reg 1))),
     )

@@ -36,18 +36,12 @@ use Rattle.lift_blocks.specs.Extended.{extended}
 use Rattle.lift_blocks.specs.Flags.{computes}
 use Rattle.lift_shifts.specs.Counts.{back_word, before_word, count_word, may_be_one, rest_word, turns_word}
 use Rattle.lift_shifts.specs.Shifts.{carry_word, conditional, double_carry_word, double_stmts, double_word, lowest_word, over_word, rotates, sets_flag, sets_overflow, sets_result, sets_shifted, shift_stmts, shift_word, takes}
-use Rattle.lift_shifts.proofs.CountWords.{back_below, less_below, top_below, turns_below}
+use Rattle.lift_shifts.proofs.CountWords.{back_below, below_32, less_below, top_below, turns_below}
 
 -- ---- counts, at most 3 deep
 
-below_32 : (x : ℕ) → x % 32 < 32
-below_32 x = omega arith
-
 ecx_fit : (d : ℕ) → 1 ≤ d → IsFit d (reg 1)
 ecx_fit d h = reg_fit d 1 h (lit< tt)
-
-deeper_count : (d k : ℕ) (e : CExpr) → d ≤ k → IsCount d e → IsCount k e
-deeper_count d k e h c = record { fit = deeper d k e h c.fit; small = c.small }
 
 count_fit : (c : Count) → IsCount 3 (count_word c)
 count_fit n.One = num_count 3 1 (lit≤ tt) (lit< tt)

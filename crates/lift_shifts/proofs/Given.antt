@@ -42,13 +42,13 @@ use Rattle.lift_shifts.proofs.Taken.{Gives, Seen, Taken}
 below_test : (k : ℕ) → k < 32 → nat_lt k 32 ≡ true
 below_test k h = grind (arith, nat_tests)
 
-pub shl_is : (v : Names) (e n : CExpr) (x k : ℕ) → word_of e v ≡ Some x → word_of n v ≡ Some k → k < 32 → word_of (bin op.Shl e n) v ≡ Some (low_part 32 (x * 2 ^ k))
+shl_is : (v : Names) (e n : CExpr) (x k : ℕ) → word_of e v ≡ Some x → word_of n v ≡ Some k → k < 32 → word_of (bin op.Shl e n) v ≡ Some (low_part 32 (x * 2 ^ k))
 shl_is v e n x k h g l = bin_value v op.Shl e n x k h g ∙ ap (λ t. if t then Some (low_part 32 (x * 2 ^ k)) else None) (below_test k l)
 
-pub shr_is : (v : Names) (e n : CExpr) (x k : ℕ) → word_of e v ≡ Some x → word_of n v ≡ Some k → k < 32 → word_of (bin op.Shr e n) v ≡ Some (x / 2 ^ k)
+shr_is : (v : Names) (e n : CExpr) (x k : ℕ) → word_of e v ≡ Some x → word_of n v ≡ Some k → k < 32 → word_of (bin op.Shr e n) v ≡ Some (x / 2 ^ k)
 shr_is v e n x k h g l = bin_value v op.Shr e n x k h g ∙ ap (λ t. if t then Some (x / 2 ^ k) else None) (below_test k l)
 
-pub low_fits_word : (y : ℕ) → low_part 32 y < 2 ^ 32
+low_fits_word : (y : ℕ) → low_part 32 y < 2 ^ 32
 low_fits_word y = mod_below y (2 ^ 32) (pow_pos 32)
 
 -- the words of two parts, one shifted by a count and the other by another and then by 1

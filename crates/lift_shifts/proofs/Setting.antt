@@ -41,7 +41,7 @@ use Rattle.lift_shifts.proofs.Taken.{Gives, Known, Seen, Sets, leaves_over, sets
 -- ---- words that stand for flags
 
 -- a truth
-pub truth_stands : (b : Bool) → StandsFor (flag_if b) (bit_of b)
+truth_stands : (b : Bool) → StandsFor (flag_if b) (bit_of b)
 truth_stands true = refl
 truth_stands false = refl
 
@@ -102,24 +102,24 @@ picks_first t e f v h = simp (word_layer, h)
 picks_second : (t : CCond) (e f : CExpr) (v : Names) → truth_of t v ≡ Some false → word_of (pick t e f) v ≡ word_of f v
 picks_second t e f v h = simp (word_layer, h)
 
-module _ (a : Step) (x r : ℕ) (c : Count) (z : Bool) (some : is_none c ≡ false) (counted : nat_eq (count_of c a) 0 ≡ z) where
-  -- whether CL is 0
-  none_truth : (v : Names) → Seen a x r v → truth_of (cmp test.Eq (count_word c) (num 0)) v ≡ Some z
-  none_truth v h = cmp_is test.Eq (count_word c) (num 0) v (count_of c a) 0 (count_is a v h.taken.shows c) (num_value v 0) ∙ ap Some counted
+-- whether the count is 0
+none_truth : (a : Step) (x r : ℕ) (c : Count) (z : Bool) → nat_eq (count_of c a) 0 ≡ z → (v : Names) → Seen a x r v → truth_of (cmp test.Eq (count_word c) (num 0)) v ≡ Some z
+none_truth a x r c z counted v h = cmp_is test.Eq (count_word c) (num 0) v (count_of c a) 0 (count_is a v h.taken.shows c) (num_value v 0) ∙ ap Some counted
 
-  flag_gives : (k : ℕ) (v : Names) (b : Bit) → Seen a x r v → StandsFor b (v (name.Flag k)) → Gives b (flag k) v
-  flag_gives k v b h s = (v (name.Flag k), name_value v (name.Flag k), h.taken.names.words (name.Flag k), s)
+-- a flag gives what it stands for
+flag_gives : (a : Step) (x r k : ℕ) (v : Names) (b : Bit) → Seen a x r v → StandsFor b (v (name.Flag k)) → Gives b (flag k) v
+flag_gives a x r k v b h s = (v (name.Flag k), name_value v (name.Flag k), h.taken.names.words (name.Flag k), s)
 
 -- a word that is equal to one that gives a flag
 gives_as : (b : Bit) (e f : CExpr) (v : Names) → word_of f v ≡ word_of e v → Gives b e v → Gives b f v
 gives_as b e f v h g = let (y, is, small, stands) = g in (y, h ∙ is, small, stands)
 
-pub conditional_gives : (a : Step) (x r : ℕ) (c : Count) (z : Bool) → is_none c ≡ false → nat_eq (count_of c a) 0 ≡ z
+conditional_gives : (a : Step) (x r : ℕ) (c : Count) (z : Bool) → is_none c ≡ false → nat_eq (count_of c a) 0 ≡ z
     → (k : ℕ) (e : CExpr) (old b : Bit) (v : Names) → Seen a x r v → StandsFor old (v (name.Flag k)) → (z ≡ false → Gives b e v) → Gives (unless z old b) (conditional c k e) v
 conditional_gives a x r n.Cl true some counted k e old b v h s g =
-    gives_as old (flag k) _ v (picks_first _ (flag k) e v (none_truth a x r n.Cl true some counted v h)) (flag_gives a x r n.Cl true some counted k v old h s)
+    gives_as old (flag k) _ v (picks_first _ (flag k) e v (none_truth a x r n.Cl true counted v h)) (flag_gives a x r k v old h s)
 conditional_gives a x r n.Cl false some counted k e old b v h s g =
-    gives_as b e _ v (picks_second _ (flag k) e v (none_truth a x r n.Cl false some counted v h)) (g refl)
+    gives_as b e _ v (picks_second _ (flag k) e v (none_truth a x r n.Cl false counted v h)) (g refl)
 conditional_gives a x r n.One true some counted k e old b v h s g = absurd cc
 conditional_gives a x r n.One false some counted k e old b v h s g = g refl
 conditional_gives a x r (n.Imm i) true some counted k e old b v h s g = absurd cc

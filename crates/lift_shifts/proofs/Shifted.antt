@@ -84,14 +84,14 @@ sar_is size x c h k =
 -- ---- rotations
 
 -- a shift to the right and then by 1
-pub once_more : (x k n : ℕ) → suc k ≡ n → x / 2 ^ k / 2 ≡ x / 2 ^ n
+once_more : (x k n : ℕ) → suc k ≡ n → x / 2 ^ k / 2 ≡ x / 2 ^ n
 once_more x k n e = div-div-eq-div-mul x (2 ^ k) 2 ∙ ap (λ d. x / d) (sym (pow-suc 2 k)) ∙ ap (λ m. x / 2 ^ m) e
 
 doubled : (p : ℕ) → low_part 32 (low_part 32 p * 2) ≡ low_part 32 (p * 2)
 doubled p = omega arith
 
 -- a shift to the left and then by 1
-pub once_more_left : (x k n : ℕ) → suc k ≡ n → low_part 32 (low_part 32 (x * 2 ^ k) * 2) ≡ low_part 32 (x * 2 ^ n)
+once_more_left : (x k n : ℕ) → suc k ≡ n → low_part 32 (low_part 32 (x * 2 ^ k) * 2) ≡ low_part 32 (x * 2 ^ n)
 once_more_left x k n e =
     doubled (x * 2 ^ k)
     ∙ ap (low_part 32) (mul_assoc x (2 ^ k) 2)

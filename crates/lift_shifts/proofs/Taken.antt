@@ -134,7 +134,7 @@ sets_operand size d a w names shows flags r =
       },
     )
 
-pub takes_run : (size : Size) (d : Operand) (a : Step) (w : World) → AreNames w.names → AreBytes w.mem → Shows a w.names → FlagsStand a.flags w.names
+takes_run : (size : Size) (d : Operand) (a : Step) (w : World) → AreNames w.names → AreBytes w.mem → Shows a w.names → FlagsStand a.flags w.names
     → a.first ≡ read_by (operand_read size d a.regs a.fs a.gs) w.mem
     → (u : World) × Runs (takes size d) w u × TakenFrom a (value_of size d a) w u
 takes_run size (o.Reg n) a w names bytes shows flags first = sets_operand size (o.Reg n) a w names shows flags (record { read = λ e. absurd cc })

@@ -122,9 +122,7 @@ pub fn back_word(alloc: Global, size: Size, count: Count) -> Result<Expr, AllocE
 {
     match count {
         Count::One => Ok(num(second_place(size))),
-        Count::Imm(k) => Ok(num(
-            top_place(size).saturating_sub(k as u32 % 32 % bits(size)),
-        )),
+        Count::Imm(k) => Ok(num(top_place(size).saturating_sub(k as u32 % 32 % bits(size)))),
         Count::Cl => {
             let complement = word_not(alloc, reg(1))?;
             bin(alloc, Bin::And, complement, num(top_place(size)))

@@ -55,12 +55,7 @@ fn signed_word(alloc: Global, size: Size, count: Expr) -> Result<Expr, AllocErro
 }
 
 /// The result of a shift.
-pub fn shift_word(
-    alloc: Global,
-    op: ShiftOp,
-    size: Size,
-    count: Count,
-) -> Result<Expr, AllocError>
+pub fn shift_word(alloc: Global, op: ShiftOp, size: Size, count: Count) -> Result<Expr, AllocError>
     ensures { IfOk result (λ e. e ≡ shift_word_of op size count) }
 {
     match op {
@@ -83,12 +78,7 @@ fn lowest_word(alloc: Global, e: Expr) -> Result<Expr, AllocError>
 }
 
 /// CF after a shift.
-pub fn carry_word(
-    alloc: Global,
-    op: ShiftOp,
-    size: Size,
-    count: Count,
-) -> Result<Expr, AllocError>
+pub fn carry_word(alloc: Global, op: ShiftOp, size: Size, count: Count) -> Result<Expr, AllocError>
     ensures { IfOk result (λ e. e ≡ carry_word_of op size count) }
 {
     match op {
