@@ -1,7 +1,6 @@
 //! From a range to its function, and to the text of that.
 
 ghost use Rattle.std.specs.Prelude.{◌≡◌, IfOk, IfErr};
-ghost use Rattle.c_emit.specs.Laws.{IsTreeOf};
 ghost use Rattle.dream_engine.specs.Agreement.{IsDecompiled, IsFunctionOf};
 ghost use Rattle.dream_engine.specs.Tree.{IsTreeIn};
 ghost use Rattle.flow_graph.specs.Place.{HasNoText};
@@ -15,8 +14,8 @@ use elf_image::{Image, Range};
 use flow_graph::{FlowFault, discover};
 use guarded::Tree;
 use micro_ir::Flow;
-use range_flow::flow_of;
-use regions::{plain, straight};
+use range_flow::{discovered_cover, flow_is_given, flow_of, flows_agree};
+use regions::{following_agrees, plain, straight};
 use std::alloc::{AllocError, Global};
 
 // The tree of a flow in a form.
@@ -39,8 +38,12 @@ pub fn decompile_fun(alloc: Global, m: &Image, r: &Range, form: Form) -> Result<
     ensures err { IfErr result (HasNoText m.now r.now) }
 {
     let found = discover(alloc, m, r)?;
+    discovered_cover();
     let flow = flow_of(alloc, m, r, &found)?;
+    flow_is_given();
     let tree = tree_of(alloc, &flow, form)?;
+    flows_agree();
+    following_agrees();
     Ok(emit(alloc, &tree, r.entry)?)
 }
 
