@@ -1,0 +1,5 @@
+mod Wholes
+mod Factors
+mod ProductNumbers
+mod FactorWords
+mod PairWords
