@@ -3,3 +3,6 @@ mod Factors
 mod ProductNumbers
 mod FactorWords
 mod PairWords
+mod ProductRuns
+mod WordsFit
+mod ProductBlocks
