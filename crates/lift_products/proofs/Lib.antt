@@ -6,3 +6,5 @@ mod PairWords
 mod ProductRuns
 mod WordsFit
 mod ProductBlocks
+mod DivisionNumbers
+mod Dividends
