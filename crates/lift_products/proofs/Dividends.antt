@@ -1,10 +1,11 @@
 -- The dividends as words, and what a quotient of 32 bits tells at each size.
-use Rattle.std.proofs.Common.{◌≡◌, ℕ, ◌+◌, ◌-◌, ◌*◌, ◌/◌, ◌%◌, ◌^◌, ◌<◌, Bool, true, false, bit_or, Option, Some, refl, sym, ap, ◌∙◌, subst, arith}
+use Rattle.std.proofs.Common.{◌≡◌, ℕ, ℤ, pos, negsuc, ◌-ℤ◌, nat_eq, nat_le, ◌||◌, lit<, if◌then◌else◌, ◌+◌, ◌-◌, ◌*◌, ◌/◌, ◌%◌, ◌^◌, ◌<◌, Bool, true, false, bit_or, Option, Some, None, refl, sym, ap, ◌∙◌, subst, arith}
 use Rattle.std.proofs.Math.Nat.{mod-eq_of_lt}
+use Rattle.std.proofs.lemmas.Bool.Decides.{nat_tests}
 use Rattle.std.proofs.lemmas.Nat.{mod_below, or_shifted, pow_pos}
 use Rattle.dream_words.specs.declared.machine.Name.TheVariants as name
 use Rattle.dream_words.specs.declared.machine.Regs.{Regs}
-use Rattle.dream_words.specs.Words.{low_part, quotient_of, shifted_signed, sign_bit, sign_extended, signed_part, signed_quotient_of, wide_number}
+use Rattle.dream_words.specs.Words.{low_part, quotient_of, shifted_signed, sign_bit, sign_extended, signed_part, signed_quotient_of, wide_number, word_of as word_taken}
 use Rattle.run_parts.specs.World.{Names, regs_in}
 use Rattle.x86_inst.specs.declared.Size.{Size}
 use Rattle.x86_inst.specs.declared.Size.TheVariants.{B, H, W}
@@ -14,6 +15,7 @@ use Rattle.c_syntax.specs.declared.syntax.CBin.TheVariants as op
 use Rattle.c_syntax.specs.declared.syntax.CExpr.{CExpr}
 use Rattle.c_syntax.specs.declared.syntax.CFn2.TheVariants.{Sar}
 use Rattle.c_syntax.specs.Value.{word_of}
+use Rattle.c_syntax.specs.Words.{quotient, remainder}
 use Rattle.c_words.specs.Built.{bin, num}
 use Rattle.lift_parts.specs.Parts.{low_word, reg}
 use Rattle.lift_parts.specs.Shown.{AreNames}
@@ -109,7 +111,9 @@ extended_same x h = extended_is W x ∙ extended_same_by (sign_bit 32 x) x h
 
 -- AX as a signed number
 ax_signed : (x : ℕ) → signed_part 32 (sign_extended 16 x) ≡ signed_part 16 (wide_number 8 (x / 2 ^ 8 % 2 ^ 8) (x % 2 ^ 8))
-ax_signed x = extended_signed H x ∙ ?
+ax_signed x =
+    let e : low_part 16 x ≡ low_part 16 (wide_number 8 (x / 2 ^ 8 % 2 ^ 8) (x % 2 ^ 8)) = omega arith in
+    extended_signed H x ∙ ap (λ l. if nat_le (2 ^ 15) l then pos l -ℤ pos (2 ^ 16) else pos l) e
 
 dx_ax_below : (hi lo : ℕ) → wide_number 16 hi lo < 2 ^ 32
 dx_ax_below hi lo = omega arith
@@ -124,3 +128,43 @@ quotient_tells true W r d h =
     subst (λ x. Tells 32 (bad_value true W (signed_quotient_of 32 r.edx r.eax x)) (signed_quotient_of 32 r.edx r.eax x) (sized_quotient true W r d)) (sym (extended_same d h))
     (whole_tells true (signed_quotient_of 32 r.edx r.eax d))
 quotient_tells false W r d h = whole_tells false (quotient_of 32 r.edx r.eax d)
+
+-- ---- quotients and remainders are words
+
+pub record AreWords (p : Option (ℕ × ℕ)) : Type 0 where
+  pub first : quotient p < 2 ^ 32
+  pub second : remainder p < 2 ^ 32
+
+guarded : (c : Bool) (q r : ℕ) → (c ≡ false → q < 2 ^ 32) → (c ≡ false → r < 2 ^ 32) → AreWords (if c then None else Some (q, r))
+guarded true q r h k = record { first = lit< tt; second = lit< tt }
+guarded false q r h k = record { first = h refl; second = k refl }
+
+first_false : (a b : Bool) → (a || b) ≡ false → a ≡ false
+first_false false b e = refl
+first_false true b e = absurd cc
+
+second_false : (a b : Bool) → (a || b) ≡ false → b ≡ false
+second_false false b e = e
+second_false true b e = absurd cc
+
+fits_below : (q : ℕ) → nat_le (2 ^ 32) q ≡ false → q < 2 ^ 32
+fits_below q e = grind (arith, nat_tests)
+
+rest_below : (n d : ℕ) → nat_eq (low_part 32 d) 0 ≡ false → n % low_part 32 d < 2 ^ 32
+rest_below n d e =
+    let k : 0 < low_part 32 d = grind (arith, nat_tests) in
+    let l : low_part 32 d < 2 ^ 32 = mod_below d (2 ^ 32) (pow_pos 32) in
+    let p : n % low_part 32 d < low_part 32 d = mod_below n (low_part 32 d) k in
+    omega arith
+
+taken_below : (z : ℤ) → word_taken 32 z < 2 ^ 32
+taken_below (pos a) = omega arith
+taken_below (negsuc a) = omega arith
+
+pub quotient_words : (signed : Bool) (hi lo d : ℕ) → AreWords (wide_quotient signed 32 hi lo d)
+quotient_words true hi lo d = guarded _ _ _ (λ e. taken_below _) (λ e. taken_below _)
+quotient_words false hi lo d =
+    let n : ℕ = wide_number 32 hi lo in
+    let k : ℕ = low_part 32 d in
+    guarded (nat_eq k 0 || nat_le (2 ^ 32) (n / k)) (n / k) (n % k)
+    (λ e. fits_below (n / k) (second_false (nat_eq k 0) (nat_le (2 ^ 32) (n / k)) e)) (λ e. rest_below n d (first_false (nat_eq k 0) (nat_le (2 ^ 32) (n / k)) e))

@@ -8,3 +8,5 @@ mod WordsFit
 mod ProductBlocks
 mod DivisionNumbers
 mod Dividends
+mod DivisionRuns
+mod QuotientBlocks

@@ -1,6 +1,6 @@
 -- The statements of quotients. The local t0 has the word that is read, t1 the quotient, and t2 the remainder. Below 32 bits
 -- the functions of 32 bits divide the dividend, extended to two words, by the divisor, extended to one.
-use Rattle.std.specs.Prelude.{Bool, true, false, List, ◌∷◌, ◌++◌}
+use Rattle.std.specs.Prelude.{ℕ, Bool, true, false, List, ◌∷◌, ◌++◌}
 use Rattle.dream_words.specs.declared.machine.Name.TheVariants.{T}
 use Rattle.x86_inst.specs.declared.Size.{Size}
 use Rattle.x86_inst.specs.declared.Size.TheVariants.{B, H, W}
@@ -52,21 +52,19 @@ abbrev pub remainder_function : Bool → CFn3
 remainder_function true = Divsr
 remainder_function false = Divur
 
--- 1 where t1, as a number without sign, is above the greatest word of a size
-abbrev pub unfit_unsigned : Size → CExpr
-unfit_unsigned B = word_if (cmp test.Lt (num 0xff) (temp 1))
-unfit_unsigned H = word_if (cmp test.Lt (num 0xffff) (temp 1))
-unfit_unsigned W = num 0
+-- 1 where t1 is above the greatest word of a size
+abbrev pub unfit_unsigned : ℕ → CExpr
+unfit_unsigned greatest = word_if (cmp test.Lt (num greatest) (temp 1))
 
--- 1 where the quotient in t1 doesn't fit the size
-abbrev pub unfit : Bool → Size → CExpr
-unfit true size = unfit_signed size
-unfit false size = unfit_unsigned size
+-- 1 where the quotient in t1 doesn't fit the size, whose greatest word is given
+abbrev pub unfit : Bool → Size → ℕ → CExpr
+unfit true size greatest = unfit_signed size
+unfit false size greatest = unfit_unsigned greatest
 
 -- A word that isn't 0 exactly where there is no quotient: the divisor is 0, or the quotient doesn't fit.
 abbrev pub bad_word : Bool → Size → Operand → CExpr
-bad_word signed B s = bin op.Or (divided_word (bad_function signed) signed B s) (unfit signed B)
-bad_word signed H s = bin op.Or (divided_word (bad_function signed) signed H s) (unfit signed H)
+bad_word signed B s = bin op.Or (divided_word (bad_function signed) signed B s) (unfit signed B 0xff)
+bad_word signed H s = bin op.Or (divided_word (bad_function signed) signed H s) (unfit signed H 0xffff)
 bad_word signed W s = divided_word (bad_function signed) signed W s
 
 -- DIV and IDIV: the trap comes before a register is set
