@@ -1,7 +1,6 @@
 -- What the words of a count give.
-use Rattle.std.proofs.Common.{◌≡◌, ℕ, ◌+◌, ◌-◌, ◌*◌, ◌/◌, ◌%◌, ◌^◌, ◌<◌, ◌≤◌, nat_eq, Bool, true, false, bit_and, Some, refl, sym, ap, ◌∙◌, subst, lit<, lit≤, arith}
-use Rattle.std.proofs.lemmas.Bool.Decides.{nat_tests}
-use Rattle.std.proofs.lemmas.Nat.{and_mask, mod_below}
+use Rattle.std.proofs.Common.{◌≡◌, ℕ, ◌+◌, ◌-◌, ◌%◌, ◌^◌, ◌<◌, ◌≤◌, nat_eq, true, false, bit_and, Some, refl, ap, ◌∙◌, subst, lit<, arith}
+use Rattle.std.proofs.lemmas.Nat.{and_mask}
 use Rattle.dream_words.specs.declared.machine.Name.TheVariants as name
 use Rattle.dream_words.specs.Words.{low_part}
 use Rattle.run_parts.specs.World.{Names}

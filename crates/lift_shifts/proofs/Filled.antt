@@ -1,13 +1,11 @@
 -- The statements of double shifts lead where their instructions do.
-use Rattle.std.proofs.Common.{◌≡◌, ℕ, ◌+◌, ◌-◌, ◌*◌, ◌/◌, ◌%◌, ◌^◌, ◌<◌, ◌≤◌, nat_eq, nat_lt, Bool, true, false, Some, refl, sym, ap, ◌∙◌, subst, arith}
+use Rattle.std.proofs.Common.{◌≡◌, ℕ, ◌-◌, ◌*◌, ◌/◌, ◌%◌, ◌^◌, ◌<◌, ◌≤◌, nat_eq, nat_lt, Bool, true, false, Some, refl, sym, ap, ◌∙◌, subst, arith}
 use Rattle.std.proofs.lemmas.Bool.Decides.{nat_tests}
 use Rattle.std.proofs.Math.Nat.{mod-eq_of_lt}
-use Rattle.dream_words.specs.declared.machine.Bit.{Bit}
-use Rattle.dream_words.specs.declared.machine.Bit.TheVariants.{Undefined}
 use Rattle.dream_words.specs.declared.machine.Name.TheVariants as name
 use Rattle.dream_words.specs.Registers.{reg_of}
 use Rattle.dream_words.specs.Signed.{differ}
-use Rattle.dream_words.specs.Words.{low_part, sign_bit}
+use Rattle.dream_words.specs.Words.{sign_bit}
 use Rattle.run_parts.specs.World.{Names}
 use Rattle.x86_inst.specs.declared.Count.{Count}
 use Rattle.x86_inst.specs.declared.Inst.TheVariants as i

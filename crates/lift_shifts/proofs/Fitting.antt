@@ -1,9 +1,7 @@
 -- The statements of shifts keep the rule of flows and are safe; by CL, and by a number that isn't 0, a shift of memory stores
 -- once.
-use Rattle.std.proofs.Common.{◌≡◌, ℕ, ◌+◌, ◌-◌, ◌%◌, ◌^◌, ◌<◌, ◌≤◌, nat_lt, Bool, true, false, List, [], ◌∷◌, ◌++◌, refl, sym, ap, subst, lit<, lit≤, arith}
-use Rattle.std.specs.Prelude.{IsTrue, if◌then◌else◌, ◌&&◌}
-use Rattle.std.proofs.lemmas.Bool.{ltb-true}
-use Rattle.std.proofs.lemmas.Bool.Decides.{nat_tests}
+use Rattle.std.proofs.Common.{◌≡◌, ℕ, ◌+◌, ◌-◌, ◌%◌, ◌^◌, ◌<◌, ◌≤◌, Bool, true, false, List, [], ◌∷◌, ◌++◌, refl, subst, lit<, lit≤, arith}
+use Rattle.std.specs.Prelude.{IsTrue, if◌then◌else◌}
 use Rattle.dream_words.specs.declared.machine.Name.{Name}
 use Rattle.dream_words.specs.declared.machine.Name.TheVariants as name
 use Rattle.x86_inst.specs.declared.Count.{Count}
@@ -22,12 +20,12 @@ use Rattle.c_syntax.specs.declared.syntax.CCmp.TheVariants as test
 use Rattle.c_syntax.specs.declared.syntax.CFn1.TheVariants.{Par, Sx1, Sx2}
 use Rattle.c_syntax.specs.declared.syntax.CFn2.TheVariants as fn
 use Rattle.c_syntax.specs.declared.syntax.CExpr.{CExpr}
-use Rattle.c_words.specs.Built.{bin, cmp, fn2, num, word_not}
+use Rattle.c_words.specs.Built.{bin, cmp, num, word_not}
 use Rattle.micro_ir.specs.declared.flow.Stmt.{Stmt}
 use Rattle.micro_ir.specs.declared.flow.Stmt.TheVariants as stmt
 use Rattle.micro_ir.specs.Rule.{is_flow_name, is_flow_target, is_flow_word}
 use Rattle.lift_parts.specs.Lifted.{once}
-use Rattle.lift_parts.specs.Parts.{flag, low_word, reads, reg, temp, value_word, writes}
+use Rattle.lift_parts.specs.Parts.{flag, low_word, reg, temp, value_word, writes}
 use Rattle.lift_parts.proofs.Fit.{AreFit, IsFit, bin_fit, both_hold, deeper, fit_append, fit_word, masked_fit, more_fit, name_fit, none_fit, num_fit, reads_fit, reg_fit, shl_fit, shr_fit, temp_fit, value_fit}
 use Rattle.lift_parts.proofs.FitShapes.{IsCount, cmp_fit, cond_deeper, fn1_fit, fn2_fit, masked_count, not_fit, num_count, pick_fit, shl_count_fit, shr_count_fit, word_if_fit}
 use Rattle.lift_parts.proofs.FitWrites.{writes_fit}

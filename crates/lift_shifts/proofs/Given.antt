@@ -1,12 +1,10 @@
 -- What the words of shifts and rotations give: their results, CF and OF.
-use Rattle.std.proofs.Common.{◌≡◌, ℕ, ◌+◌, ◌-◌, ◌*◌, ◌/◌, ◌%◌, ◌^◌, ◌<◌, ◌≤◌, min, nat_eq, nat_lt, Bool, true, false, bit_and, Option, Some, None, refl, sym, ap, ◌∙◌, subst, lit<, arith}
-use Rattle.std.specs.Prelude.{if◌then◌else◌, bit_xor}
+use Rattle.std.proofs.Common.{◌≡◌, ℕ, ◌+◌, ◌-◌, ◌*◌, ◌/◌, ◌%◌, ◌^◌, ◌<◌, ◌≤◌, min, nat_eq, nat_lt, Bool, true, false, Some, None, refl, sym, ap, ◌∙◌, lit<, arith}
+use Rattle.std.specs.Prelude.{if◌then◌else◌}
 use Rattle.std.proofs.lemmas.Bool.Decides.{nat_tests}
 use Rattle.std.proofs.lemmas.Nat.{mod_below, pow_pos}
-use Rattle.std.proofs.Math.Nat.{div-le_self}
 use Rattle.dream_words.specs.declared.machine.Bit.TheVariants.{Undefined}
 use Rattle.dream_words.specs.declared.machine.Flags.{Flags}
-use Rattle.dream_words.specs.declared.machine.Name.TheVariants as name
 use Rattle.dream_words.specs.Signed.{differ}
 use Rattle.dream_words.specs.Words.{bit_of, low_part, shifted_signed, sign_bit, sign_extended}
 use Rattle.run_parts.specs.World.{Names}
@@ -16,7 +14,7 @@ use Rattle.x86_inst.specs.declared.ShiftOp.TheVariants.{Rol, Ror, Shl, Shr, Sar}
 use Rattle.x86_inst.specs.declared.Size.{Size}
 use Rattle.x86_inst.specs.declared.Size.TheVariants.{B, H, W}
 use Rattle.x86_model.specs.declared.effect.Step.{Step}
-use Rattle.x86_model.specs.Arithmetic.{flag_if, shifted_signed_at}
+use Rattle.x86_model.specs.Arithmetic.{shifted_signed_at}
 use Rattle.x86_model.specs.Operands.{bits_of, count_of}
 use Rattle.x86_model.specs.WideRows.{shift_flags, shift_value, where_true}
 use Rattle.c_syntax.specs.declared.syntax.CBin.TheVariants as op
@@ -24,7 +22,7 @@ use Rattle.c_syntax.specs.declared.syntax.CFn2.TheVariants as fn
 use Rattle.c_syntax.specs.declared.syntax.CExpr.{CExpr}
 use Rattle.c_syntax.specs.Value.{word_of}
 use Rattle.c_words.specs.Built.{bin, fn2, num}
-use Rattle.lift_parts.specs.Parts.{low_word, temp}
+use Rattle.lift_parts.specs.Parts.{temp}
 use Rattle.lift_parts.proofs.Values.{low_is, word_fits}
 use Rattle.lift_alu.specs.Words.{top_word}
 use Rattle.lift_blocks.specs.Extended.{extended}

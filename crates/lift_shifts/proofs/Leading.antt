@@ -1,10 +1,9 @@
 -- The statements of shifts lead where their instructions do.
-use Rattle.std.proofs.Common.{◌≡◌, ℕ, ◌+◌, ◌-◌, ◌*◌, ◌/◌, ◌%◌, ◌^◌, ◌<◌, nat_eq, Bool, true, false, List, [], ◌∷◌, ◌++◌, Some, refl, sym, ap, ◌∙◌, subst, lit<, arith}
+use Rattle.std.proofs.Common.{◌≡◌, ℕ, ◌^◌, ◌<◌, nat_eq, Bool, true, false, List, [], ◌++◌, Some, refl, sym, ap, ◌∙◌, subst, arith}
 use Rattle.std.specs.Prelude.{if◌then◌else◌}
 use Rattle.std.proofs.lemmas.Bool.Decides.{nat_tests}
 use Rattle.dream_words.specs.declared.machine.Bit.TheVariants.{Undefined}
 use Rattle.dream_words.specs.declared.machine.Flags.{Flags}
-use Rattle.dream_words.specs.declared.machine.Name.TheVariants as name
 use Rattle.run_parts.specs.World.{Names, World}
 use Rattle.x86_inst.specs.declared.Count.{Count}
 use Rattle.x86_inst.specs.declared.Count.TheVariants as n

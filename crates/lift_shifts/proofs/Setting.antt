@@ -1,6 +1,6 @@
 -- The flags of a shift are set: by CL, and where the count is 0, to what they were.
-use Rattle.std.proofs.Common.{◌≡◌, ℕ, ◌-◌, ◌/◌, ◌^◌, ◌<◌, nat_eq, nat_lt, Bool, true, false, List, [], ◌∷◌, ◌++◌, Some, refl, sym, ap, ◌∙◌, subst, lit<}
-use Rattle.std.specs.Prelude.{if◌then◌else◌, ◌==◌}
+use Rattle.std.proofs.Common.{◌≡◌, ℕ, ◌-◌, ◌/◌, ◌^◌, ◌<◌, nat_eq, Bool, true, false, List, [], ◌∷◌, ◌++◌, Some, refl, sym, ap, ◌∙◌, subst}
+use Rattle.std.specs.Prelude.{if◌then◌else◌}
 use Rattle.std.proofs.Math.Nat.{mod-eq_of_lt}
 use Rattle.dream_words.specs.declared.machine.Bit.{Bit}
 use Rattle.dream_words.specs.declared.machine.Bit.TheVariants.{Undefined}
@@ -19,21 +19,19 @@ use Rattle.x86_model.specs.Successors.{is_none}
 use Rattle.x86_model.specs.WideRows.{where_true}
 use Rattle.c_syntax.specs.declared.syntax.CBin.TheVariants as op
 use Rattle.c_syntax.specs.declared.syntax.CCmp.TheVariants as test
-use Rattle.c_syntax.specs.declared.syntax.CFn1.TheVariants.{Par}
 use Rattle.c_syntax.specs.declared.syntax.CExpr.{CExpr}
 use Rattle.c_syntax.specs.declared.syntax.CCond.{CCond}
 use Rattle.c_syntax.specs.Value.{truth_of, word_of}
-use Rattle.c_words.specs.Built.{bin, cmp, fn1, num, pick}
+use Rattle.c_words.specs.Built.{cmp, num, pick}
 use Rattle.c_words.proofs.Layers.{word_layer}
 use Rattle.micro_ir.specs.declared.flow.Stmt.{Stmt}
-use Rattle.micro_ir.specs.declared.flow.Stmt.TheVariants as stmt
 use Rattle.lift_parts.specs.Parts.{flag, temp}
-use Rattle.lift_parts.specs.Stands.{FlagsStand, StandsFor}
+use Rattle.lift_parts.specs.Stands.{StandsFor}
 use Rattle.lift_alu.specs.Words.{even_word, top_word, zero_word}
 use Rattle.lift_blocks.proofs.Does.{cmp_is}
 use Rattle.lift_blocks.proofs.MoveWords.{bin_value, name_value, num_value, word_if_value}
 use Rattle.lift_shifts.specs.Counts.{count_word, may_be_one}
-use Rattle.lift_shifts.specs.Shifts.{conditional, sets_flag, sets_overflow, sets_result, sets_shifted}
+use Rattle.lift_shifts.specs.Shifts.{conditional, sets_flag, sets_result, sets_shifted}
 use Rattle.lift_shifts.proofs.CountWords.{count_is, not_one}
 use Rattle.lift_shifts.proofs.Outs.{bit_fits, top_is}
 use Rattle.lift_shifts.proofs.Taken.{Gives, Known, Seen, Sets, leaves_over, sets_carry, sets_nothing, sets_over, sets_parity, sets_sign, sets_zero}

@@ -1,6 +1,6 @@
 -- How far a shift goes, as words: by CL, modulo 32, or a number. No word is stuck, and each is below 32, whatever the names
 -- stand for.
-use Rattle.std.specs.Prelude.{ℕ, ◌-◌, ◌%◌, ◌==◌, Bool, true}
+use Rattle.std.specs.Prelude.{◌-◌, ◌%◌, ◌==◌, Bool, true}
 use Rattle.x86_inst.specs.declared.Count.{Count}
 use Rattle.x86_inst.specs.declared.Count.TheVariants as n
 use Rattle.x86_inst.specs.declared.Size.{Size}

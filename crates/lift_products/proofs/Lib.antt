@@ -1,0 +1,12 @@
+mod Wholes
+mod Factors
+mod ProductNumbers
+mod FactorWords
+mod PairWords
+mod ProductRuns
+mod WordsFit
+mod ProductBlocks
+mod DivisionNumbers
+mod Dividends
+mod DivisionRuns
+mod QuotientBlocks

@@ -1,0 +1,10 @@
+-- The block is the instruction's.
+use Rattle.std.proofs.Common.{[], ◌∷◌, sym, subst}
+use Rattle.x86_inst.specs.declared.Inst.TheVariants as i
+use Rattle.lift_parts.specs.Lifted.{AreBlocksOf}
+use Rattle.lift_products.proofs.ProductBlocks.{imul2_blocks}
+use Rattle.lift_products.proofs.products.imul2.Goals as goal
+
+pub returns : goal.returns
+returns c = λ next l h.
+    subst (λ b. AreBlocksOf (i.Imul2 c.args.size c.args.d c.args.s) c.args.at next (b ∷ [])) (sym c.in_ok-b.ensures) (imul2_blocks c.args.size c.args.d c.args.s c.args.at next h)
