@@ -164,9 +164,3 @@ fn an_answer_keeps_what_must_stay(rt: HostRuntime) -> Result<(), Fail> {
     assert_eq!(rt; told(&outcome), ("strayed", 0, 0));
     Ok(())
 }
-#[test]
-fn bench(rt: HostRuntime) -> Result<(), Fail> {
-    let outcome = run_code(rt.alloc(), b"\xc7\x47\x04\x01\0\0\0\xeb\xf7", 9, &[], 200_000)?;
-    assert_eq!(rt; told(&outcome), ("going", 0, 0));
-    Ok(())
-}
