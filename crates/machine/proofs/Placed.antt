@@ -44,8 +44,8 @@ not_backed s [] a h b = refl
 not_backed s (t ∷ ts) a h b =
     let p = and_parts (nat_le s.at a) (nat_lt a (s.at + s.size)) b in
     let not_here : is_backed_in t a ≡ false = false_from_ne_true (is_backed_in t a) (λ e.
-        let q = and_parts (nat_le t.at a) (nat_lt a (t.at + t.size)) e in
-        h.0 a (leb-true _ _ p.0) (ltb-true _ _ p.1) (leb-true _ _ q.0) (ltb-true _ _ q.1))
+    let q = and_parts (nat_le t.at a) (nat_lt a (t.at + t.size)) e in
+    h.0 a (leb-true _ _ p.0) (ltb-true _ _ p.1) (leb-true _ _ q.0) (ltb-true _ _ q.1))
     in
     ap (λ u. cond u (Some (get_or t.bytes (a - t.at) 0)) (backed_byte ts a)) not_here ∙ not_backed s ts a h.1 b
 
