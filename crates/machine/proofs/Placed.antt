@@ -1,11 +1,11 @@
 -- The bytes of segments that are put into a memory, one segment after another.
 use Rattle.std.proofs.Common.{◌≡◌, ℕ, zero, suc, ◌+◌, ◌-◌, ◌%◌, ◌^◌, ◌<◌, ◌≤◌, ◌⊎◌, inl, inr, Bool, true, false, cond, nat_le, nat_lt, List, [], ◌∷◌, length, get_or, Option, Some, None, unwrap_or, refl, sym, ap, subst, ◌∙◌, arith}
-use Rattle.std.specs.Prelude.{IsSome, is_some}
-use Rattle.std.proofs.lemmas.Bool.{cases_lt, cases_Bool, leb-true, ltb-true, and_parts, leb-false, ltb-false, and_cases, false_from_ne_true, true≢false}
+use Rattle.std.specs.Prelude.{IsSome, is_some, not, ◌&&◌}
+use Rattle.std.proofs.lemmas.Bool.{cases_lt, cases_Bool, leb-true, ltb-true, and_parts, leb-false, ltb-false, and_cases, false_from_ne_true, true≢false, and_from, lt-ltb}
 use Rattle.std.specs.Ordering.{nat_cmp}
 use Rattle.std.specs.FinMap.{get-empty}
 use Rattle.elf_image.specs.declared.image.Segment.{Segment}
-use Rattle.elf_image.specs.Image.{backed_byte, is_backed_in}
+use Rattle.elf_image.specs.Image.{frozen_byte, backed_byte, is_frozen_in, is_backed_in}
 use Rattle.elf_image.specs.Layout.{IsPlaced, IsApartFrom, AreLaidOut}
 use Rattle.dream_words.specs.Memory.{Mem, byte_at, with_byte, place, no_bytes}
 use Rattle.dream_words.proofs.Memories.{byte_at-with_byte_same, byte_at-with_byte_other}
@@ -44,8 +44,8 @@ not_backed s [] a h b = refl
 not_backed s (t ∷ ts) a h b =
     let p = and_parts (nat_le s.at a) (nat_lt a (s.at + s.size)) b in
     let not_here : is_backed_in t a ≡ false = false_from_ne_true (is_backed_in t a) (λ e.
-        let q = and_parts (nat_le t.at a) (nat_lt a (t.at + t.size)) e in
-        h.0 a (leb-true _ _ p.0) (ltb-true _ _ p.1) (leb-true _ _ q.0) (ltb-true _ _ q.1))
+    let q = and_parts (nat_le t.at a) (nat_lt a (t.at + t.size)) e in
+    h.0 a (leb-true _ _ p.0) (ltb-true _ _ p.1) (leb-true _ _ q.0) (ltb-true _ _ q.1))
     in
     ap (λ u. cond u (Some (get_or t.bytes (a - t.at) 0)) (backed_byte ts a)) not_here ∙ not_backed s ts a h.1 b
 
@@ -108,3 +108,24 @@ pub all_placed : (ss : List Segment) (a : ℕ) → AreLaidOut ss → byte_at (pl
 all_placed ss a h =
     let z : byte_at no_bytes a ≡ 0 = ap (λ (o : Option ℕ). unwrap_or o 0) (get-empty nat_cmp a) in
     placed_is ss no_bytes a h (λ some. z) ∙ ap (unwrap_or (backed_byte ss a)) z
+
+some≢none : (o : Option ℕ) (b : ℕ) → o ≡ Some b → o ≡ None → ⊥
+some≢none o b e f = true≢false (sym (ap is_some e) ∙ ap is_some f)
+
+-- in segments that lie apart the byte that is frozen at an address is the one that is backed there
+pub frozen_is_backed : (ss : List Segment) (a b : ℕ) → AreLaidOut ss → frozen_byte ss a ≡ Some b → backed_byte ss a ≡ Some b
+frozen_is_backed [] a b h e = e
+frozen_is_backed (s ∷ ss) a b h e =
+    let by : Bool → Option ℕ → Option ℕ = λ u o. cond u (Some (get_or s.bytes (a - s.at) 0)) o in
+    elim (cases_Bool (is_frozen_in s a)) [
+      | inl f ↦
+          let p = and_parts (nat_le s.at a) (nat_lt a (s.at + length s.bytes)) (and_parts (not s.writable) (nat_le s.at a && nat_lt a (s.at + length s.bytes)) f).1 in
+          let below : a < s.at + length s.bytes = ltb-true a (s.at + length s.bytes) p.1 in
+          let given : length s.bytes ≤ s.size = h.0.given in
+          let backed : is_backed_in s a ≡ true = and_from (nat_le s.at a) (nat_lt a (s.at + s.size)) p.0 (lt-ltb a (s.at + s.size) (omega (arith, below, given))) in
+          ap (λ u. by u (backed_byte ss a)) backed ∙ sym (ap (λ u. by u (frozen_byte ss a)) f) ∙ e
+      | inr f ↦
+          let back = frozen_is_backed ss a b h.2 (sym (ap (λ u. by u (frozen_byte ss a)) f) ∙ e) in
+          let away : is_backed_in s a ≡ false = false_from_ne_true (is_backed_in s a) (λ t. some≢none (backed_byte ss a) b back (not_backed s ss a h.1 t)) in
+          ap (λ u. by u (backed_byte ss a)) away ∙ back
+    ]

@@ -105,9 +105,9 @@ some_bytes m s old cur a zero v ls lk same = sym (or_false (is_broken m s old cu
 some_bytes m s old cur a (suc k) v ls lk same =
     let next : Mem = with_byte cur (a % 2 ^ 32) (v % 256) in
     let later : (j : ℕ) → j < k → byte_at next ((a + 1 + j) % 2 ^ 32) ≡ byte_at old ((a + 1 + j) % 2 ^ 32) = λ j l.
-        let e : a + suc j ≡ a + 1 + j = omega arith in
-        byte_at-with_byte_other cur (a % 2 ^ 32) (v % 256) ((a + 1 + j) % 2 ^ 32) (other_address a j (omega (arith, l, lk)))
-        ∙ subst (λ b. byte_at cur (b % 2 ^ 32) ≡ byte_at old (b % 2 ^ 32)) e (same (suc j) (omega (arith, l)))
+    let e : a + suc j ≡ a + 1 + j = omega arith in
+    byte_at-with_byte_other cur (a % 2 ^ 32) (v % 256) ((a + 1 + j) % 2 ^ 32) (other_address a j (omega (arith, l, lk)))
+    ∙ subst (λ b. byte_at cur (b % 2 ^ 32) ≡ byte_at old (b % 2 ^ 32)) e (same (suc j) (omega (arith, l)))
     in
     let first : byte_at cur (a % 2 ^ 32) ≡ byte_at old (a % 2 ^ 32) = subst (λ b. byte_at cur (b % 2 ^ 32) ≡ byte_at old (b % 2 ^ 32)) (add-zero a) (same 0 (omega arith)) in
     some_bytes m s old next (a + 1) k (v / 256) ls (omega (arith, lk)) later

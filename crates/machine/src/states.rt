@@ -116,7 +116,16 @@ impl Machine {
         let reads = wants(inst, &self.regs, self.fs, self.gs);
         let first = read_by(&self.mem, reads.first);
         let second = read_by(&self.mem, reads.second);
-        apply(inst, &self.regs, &self.flags, self.fs, self.gs, first, second, next)
+        apply(
+            inst,
+            &self.regs,
+            &self.flags,
+            self.fs,
+            self.gs,
+            first,
+            second,
+            next,
+        )
     }
 
     /// The step strays.
@@ -157,7 +166,13 @@ impl Machine {
     }
 
     /// An effect is taken.
-    fn take(&mut self, answers: &[Answer], effect: &Effect, at: u32, next: u32) -> Result<Led, AllocError>
+    fn take(
+        &mut self,
+        answers: &[Answer],
+        effect: &Effect,
+        at: u32,
+        next: u32,
+    ) -> Result<Led, AllocError>
         ensures { IfOk result (λ led.
             onward led (state_of answers.now self.new) ≡ step_does effect.now at next (state_of answers.now self.old)) }
     {
@@ -210,7 +225,12 @@ impl Machine {
     pub fn outcome(self, led: Led) -> Outcome
         ensures { (answers : List Reply) → result ≡ outcome_of (onward led (state_of answers self)) }
     {
-        let Machine { regs, mem, calls, .. } = self;
+        let Machine {
+            regs,
+            mem,
+            calls,
+            ..
+        } = self;
         match led {
             Led::To(_) => Outcome::Going { calls },
             Led::Returned => Outcome::Returned { regs, mem, calls },

@@ -7,6 +7,7 @@ use std::alloc::{AllocError, Global};
 use std::test::Fail;
 
 const ENTRY: u32 = 0x0804_8100;
+
 const ESP: u32 = 0xbfff_0000;
 
 /// An image of one segment at 0x08048000 that can't be written, with code at the entry.
@@ -128,11 +129,22 @@ fn runs_end_as_their_instructions_say(rt: HostRuntime) -> Result<(), Fail> {
 #[test]
 fn a_string_is_stored(rt: HostRuntime) -> Result<(), Fail> {
     let outcome = run_code(rt.alloc(), b"\xf3\xab\xc3", 3, &[], 5)?;
-    let Outcome::Returned { regs: last, mem, .. } = outcome else {
+    let Outcome::Returned {
+        regs: last,
+        mem,
+        ..
+    } = outcome
+    else {
         return Err("it didn't return".into());
     };
     assert_eq!(rt; (last.ecx, last.edi, last.esp), (0, 0x100c, ESP + 4));
-    for (at, want) in [(0xffc, 0), (0x1000, 7), (0x1004, 7), (0x1008, 7), (0x100c, 0)] {
+    for (at, want) in [
+        (0xffc, 0),
+        (0x1000, 7),
+        (0x1004, 7),
+        (0x1008, 7),
+        (0x100c, 0),
+    ] {
         assert_eq!(rt; mem.load(at, Width::W), want, "at {at}");
     }
     assert_eq!(rt; mem.load(ENTRY, Width::W), 0x00c3_abf3);
@@ -162,11 +174,5 @@ fn an_answer_keeps_what_must_stay(rt: HostRuntime) -> Result<(), Fail> {
     let answers = answer(alloc, Memory::new(alloc))?;
     let outcome = run_code(alloc, code, 6, &answers, 1)?;
     assert_eq!(rt; told(&outcome), ("strayed", 0, 0));
-    Ok(())
-}
-#[test]
-fn bench(rt: HostRuntime) -> Result<(), Fail> {
-    let outcome = run_code(rt.alloc(), b"\xc7\x47\x04\x01\0\0\0\xeb\xf7", 9, &[], 200_000)?;
-    assert_eq!(rt; told(&outcome), ("going", 0, 0));
     Ok(())
 }

@@ -13,7 +13,7 @@ returns-then-strays c = λ decoded.
     let m = state_of c.args.setting.now.answers.now c.args.self.now in
     let e = effect_in c.args.inst.now c.args.next m in
     let s : strays sc c.args.inst.now m e ≡ true =
-        ap (strays sc c.args.inst.now m) (sym (c.effect-effect.ensures c.args.setting.now.answers.now)) ∙ sym (c.strays.ensures decoded) ∙ c.if-strays.true in
+    ap (strays sc c.args.inst.now m) (sym (c.effect-effect.ensures c.args.setting.now.answers.now)) ∙ sym (c.strays.ensures decoded) ∙ c.if-strays.true in
     ap (λ b. judged b (step_does e c.args.at c.args.next m)) (sym s)
 
 pub returns : goal.returns
@@ -27,6 +27,6 @@ returns c =
     (λ led h decoded.
     let sc = scene_in c.args.setting.now decoded in
     let s : strays sc c.args.inst.now m e ≡ false =
-        ap (strays sc c.args.inst.now m) (sym (c.effect-effect.ensures answers)) ∙ sym (c.strays.ensures decoded) ∙ c.if-strays.false in
+    ap (strays sc c.args.inst.now m) (sym (c.effect-effect.ensures answers)) ∙ sym (c.strays.ensures decoded) ∙ c.if-strays.false in
     h ∙ ap (λ x. step_does x c.args.at c.args.next m) (c.effect-effect.ensures answers) ∙ ap (λ b. judged b (step_does e c.args.at c.args.next m)) (sym s))
     c.take.ensures
