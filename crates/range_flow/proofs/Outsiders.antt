@@ -1,27 +1,23 @@
 -- The pieces of places and of the addresses outside that they lead to are those of the flow of the range.
-use Rattle.std.proofs.Common.{◌≡◌, ◌⊎◌, inl, inr, ℕ, ◌+◌, ◌-◌, ◌*◌, ◌%◌, ◌^◌, ◌<◌, ◌≤◌, Bool, true, false, not, ◌||◌, ◌&&◌, nat_eq, List, [], ◌∷◌, ◌++◌, length, map, drop, take, refl, sym, ap, ◌∙◌, subst, arith}
+use Rattle.std.proofs.Common.{◌≡◌, ◌⊎◌, inl, inr, ℕ, ◌+◌, ◌*◌, ◌%◌, ◌^◌, ◌≤◌, Bool, true, false, not, ◌||◌, ◌&&◌, nat_eq, List, [], ◌∷◌, ◌++◌, length, map, take, refl, sym, ap, ◌∙◌, subst, arith}
 use Rattle.std.specs.Prelude.{All, Contains, Result, Ok, Err, IfOk}
 use Rattle.std.specs.List.{list_any, IsDistinct}
-use Rattle.std.proofs.lemmas.Bool.{and_parts, and_from, both_ways}
-use Rattle.std.proofs.lemmas.List.{length-map}
+use Rattle.std.proofs.lemmas.Bool.{and_parts, and_from}
 use Rattle.std.proofs.lemmas.List.Elements.{All-head, All-tail, All-map, All-contains}
 use Rattle.elf_image.specs.declared.image.Segment.{Segment}
 use Rattle.elf_image.specs.declared.range.Range.{Range}
 use Rattle.elf_image.specs.Range.{is_inside, bytes_to_end}
 use Rattle.x86_inst.specs.Spelling.{Spells}
-use Rattle.x86_model.specs.Successors.{successors_of}
-use Rattle.lift_parts.specs.Lifted.{AreBlocksOf}
 use Rattle.graph_order.specs.Graph.{Digraph}
 use Rattle.micro_ir.specs.declared.flow.Flow.{Flow}
 use Rattle.flow_graph.specs.Place.{HasNoPlace}
 use Rattle.flow_graph.specs.Discovery.{IsDiscovered}
 use Rattle.flow_graph.proofs.Walked.{contains_has, has_contains}
-use Rattle.range_flow.specs.declared.piece.FlowPiece.{FlowPiece}
 use Rattle.range_flow.specs.declared.lifted.Lifted.{Lifted}
 use Rattle.range_flow.specs.Pieces.{IsPieceOf, IsLeaveTo, addresses_of, flow_blocks}
 use Rattle.range_flow.specs.Flow.{IsOutsideOf, IsFlowOf}
 use Rattle.range_flow.specs.Nodes.{piece_of, pieces_of, leave_piece, total_of, successors_in, leads_outside}
-use Rattle.range_flow.specs.Lifting.{IsLiftedFrom, IsLiftedIn}
+use Rattle.range_flow.specs.Lifting.{IsLiftedIn}
 use Rattle.range_flow.proofs.Members.{contains_cases, contains_here, contains_later, contains_mapped, mapped, none_in}
 use Rattle.range_flow.proofs.Few.{few_blocks, few_successors}
 use Rattle.range_flow.proofs.RangePlan.{all_by}

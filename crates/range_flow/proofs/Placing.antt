@@ -1,9 +1,8 @@
 -- What is made for one place more.
-use Rattle.std.proofs.Common.{◌≡◌, ℕ, ◌+◌, ◌-◌, ◌<◌, List, [], ◌∷◌, ◌++◌, length, map, take, drop, get_or, refl, sym, ap, ◌∙◌, subst, arith, add-zero, append_assoc}
+use Rattle.std.proofs.Common.{◌≡◌, ℕ, ◌+◌, ◌-◌, ◌<◌, List, [], ◌∷◌, ◌++◌, length, map, take, drop, get_or, sym, ap, ◌∙◌, subst, arith, append_assoc}
 use Rattle.std.proofs.lemmas.List.{map-append, take_more}
-use Rattle.std.proofs.lemmas.Grind.{common_steps}
 use Rattle.range_flow.specs.declared.lifted.Lifted.{Lifted}
-use Rattle.range_flow.specs.Nodes.{piece_of, pieces_of, leave_piece, total_of}
+use Rattle.range_flow.specs.Nodes.{piece_of, leave_piece, total_of}
 use Rattle.range_flow.specs.Lifting.{IsLiftedFrom, IsLiftedIn}
 
 pub lifted_in : (code x : List ℕ) (entry at : ℕ) (l : Lifted) → x ≡ drop (at - entry) code → IsLiftedFrom x at l → IsLiftedIn code entry l

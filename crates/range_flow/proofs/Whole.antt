@@ -1,7 +1,6 @@
 -- The code of a range of which no place is named, and what begins at the places that are reached.
-use Rattle.std.proofs.Common.{◌≡◌, ℕ, zero, suc, ◌+◌, ◌-◌, ◌^◌, ◌<◌, ◌≤◌, min, Bool, true, false, nat_eq, nat_lt, if◌then◌else◌, List, ◌∷◌, length, take, drop, Option, Some, None, refl, sym, ap, ◌∙◌, subst, arith, add-zero}
+use Rattle.std.proofs.Common.{◌≡◌, ℕ, zero, suc, ◌+◌, ◌-◌, ◌^◌, ◌<◌, ◌≤◌, min, Bool, true, false, nat_eq, nat_lt, if◌then◌else◌, List, length, take, drop, Option, Some, None, refl, sym, ap, ◌∙◌, subst, arith, add-zero}
 use Rattle.std.specs.Prelude.{All, Contains}
-use Rattle.std.specs.List.{concat}
 use Rattle.std.specs.Option.{option_map}
 use Rattle.std.proofs.lemmas.Bool.Decides.{nat_tests}
 use Rattle.elf_image.specs.declared.image.Segment.{Segment}
@@ -19,20 +18,20 @@ use Rattle.graph_order.specs.Graph.{Digraph}
 use Rattle.flow_graph.specs.declared.place.Cause.TheVariants as cause
 use Rattle.flow_graph.specs.Reach.{Reaches}
 use Rattle.flow_graph.specs.Place.{first_unfrozen, unless_frozen, or_last, unbacked, range_place, place_of, HasNoPlace}
-use Rattle.flow_graph.specs.Discovery.{firsts, IsDiscovered}
-use Rattle.flow_graph.proofs.Firsts.{distinct_firsts, few_in_row}
-use Rattle.flow_graph.proofs.Walked.{has_contains, reached_bounds}
+use Rattle.flow_graph.specs.Discovery.{IsDiscovered}
+use Rattle.flow_graph.proofs.Walked.{reached_bounds}
 use Rattle.flow_graph.proofs.Reading.{inside_at, code_at}
 use Rattle.range_flow.specs.Lifting.{CanBeLifted}
 use Rattle.lift.specs.Given.{leaves_bare}
+use Rattle.range_flow.specs.Lifting.{CanBeLifted, leaves_bare}
+use Rattle.range_flow.proofs.FoundPlaces.{discovered_cover}
 use Rattle.range_flow.proofs.RangePlan.{all_by}
 
 -- ---- a range that is frozen as a whole
 
--- A range that isn't empty nor too large, and is frozen as a whole.
+-- A range that isn't empty, and is frozen as a whole.
 pub record IsWhole (m : List Segment) (r : Range) : Type 0 where
   pub some : 0 < r.size
-  pub few : r.size ≤ 65536
   pub fits : r.entry + r.size ≤ 2 ^ 32
   pub whole : length (bytes_to_end m r r.entry) ≡ r.size
 
@@ -64,7 +63,6 @@ whole_of m r h =
     let b = else_none (nat_lt 65536 r.size) (place_of r.entry cause.RangeTooLarge) (option_map (λ a. place_of a cause.RangeUnbacked) (unbacked m r)) a.1 in
     let c = none_last r (first_unfrozen m r.entry (min r.size (2 ^ 32 - r.entry))) (none_mapped (λ a. place_of a cause.RangeUnbacked) (unbacked m r) b.1) in
     let some : 0 < r.size = (let e = a.0 in grind (arith, nat_tests)) in
-    let few : r.size ≤ 65536 = (let e = b.0 in grind (arith, nat_tests)) in
     let fits : r.entry + r.size ≤ 2 ^ 32 = (let e = c.1 in grind (arith, nat_tests)) in
     let room : min r.size (2 ^ 32 - r.entry) ≡ r.size = grind (arith, fits) in
     let here : is_inside r r.entry ≡ true = ap (is_inside r) (sym (add-zero r.entry)) ∙ inside_at r 0 some in
@@ -72,7 +70,6 @@ whole_of m r h =
     let long : (if is_inside r r.entry then min (r.entry + r.size) (2 ^ 32) - r.entry else 0) ≡ r.size = rw here left in
     record {
       some = some;
-      few = few;
       fits = fits;
       whole = ap (λ k. length (frozen_from m r.entry k)) long ∙ all_frozen m r.entry r.size (ap (first_unfrozen m r.entry) (sym room) ∙ c.0);
     }
@@ -124,8 +121,4 @@ module _ (m : List Segment) (r : Range) (places : List ℕ) (g : Digraph) (n : H
 
   -- there are at most 65,536 places
   pub few_places : length places ≤ 65536
-  few_places =
-      let w = whole_of m r n.range in
-      let le : length places ≤ r.size = subst (λ ks. length ks ≤ r.size) d.order
-      (few_in_row r.entry r.size (firsts (r.entry ∷ concat d.lists)) (distinct_firsts (r.entry ∷ concat d.lists)) (λ a h. place_bounds a (subst (λ ks. Contains ks a) d.order (has_contains (firsts (r.entry ∷ concat d.lists)) a h)))) in
-      omega (arith, le, w.few)
+  few_places = (discovered_cover m r places g d n).1

@@ -1,12 +1,11 @@
-use Rattle.std.proofs.Common.{◌≡◌, ℕ, ◌+◌, ◌^◌, ◌<◌, ◌≤◌, nat_eq, ◌++◌, length, map, ap, sym, subst, ◌∙◌, arith}
+use Rattle.std.proofs.Common.{◌≡◌, ℕ, ◌≤◌, nat_eq, ◌++◌, length, map, ap, sym, subst, ◌∙◌, arith}
 use Rattle.std.specs.Prelude.{All}
 use Rattle.std.specs.List.{list_any}
 use Rattle.std.proofs.lemmas.List.{length-map}
 use Rattle.elf_image.specs.Range.{bytes_to_end}
-use Rattle.micro_ir.specs.declared.flow.Flow.{Flow}
 use Rattle.range_flow.specs.Pieces.{flow_blocks}
 use Rattle.range_flow.specs.Flow.{IsFlowOf}
-use Rattle.range_flow.specs.Nodes.{pieces_of, leave_piece, total_of, successors_in, leads_outside}
+use Rattle.range_flow.specs.Nodes.{pieces_of, leave_piece, successors_in, leads_outside}
 use Rattle.range_flow.specs.Lifting.{IsLiftedIn, CanBeLifted}
 use Rattle.range_flow.proofs.Whole.{all_can_be_lifted, few_places}
 use Rattle.range_flow.proofs.Outsiders.{few_lifted, is_flow, both_ok}

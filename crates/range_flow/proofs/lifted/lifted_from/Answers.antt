@@ -1,4 +1,4 @@
-use Rattle.std.proofs.Common.{◌≡◌, ◌+◌, ◌%◌, ◌^◌, take, refl, ap, subst, ◌∙◌}
+use Rattle.std.proofs.Common.{◌+◌, ◌%◌, ◌^◌, take, refl, ap, subst, ◌∙◌}
 use Rattle.lift_parts.specs.Lifted.{AreBlocksOf}
 use Rattle.x86_model.specs.Successors.{successors_of}
 use Rattle.range_flow.proofs.lifted.lifted_from.Goals as goal

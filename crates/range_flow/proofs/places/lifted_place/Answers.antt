@@ -6,6 +6,7 @@ use Rattle.x86_inst.specs.declared.Inst.{Inst}
 use Rattle.x86_inst.specs.Spelling.{Spells}
 use Rattle.range_flow.specs.Lifting.{IsLiftedFrom, IsLiftedIn}
 use Rattle.lift.specs.Given.{leaves_bare}
+use Rattle.range_flow.specs.Lifting.{IsLiftedIn, leaves_bare}
 use Rattle.range_flow.proofs.Placing.{lifted_in}
 use Rattle.range_flow.proofs.places.lifted_place.Goals as goal
 

@@ -1,7 +1,7 @@
-use Rattle.std.proofs.Common.{◌≡◌, ◌+◌, ◌++◌, ◌∷◌, [], get_or, ap, sym, subst, ◌∙◌, arith, map-id}
+use Rattle.std.proofs.Common.{◌≡◌, ◌++◌, ◌∷◌, [], sym, subst}
 use Rattle.std.specs.Prelude.{All}
-use Rattle.std.proofs.lemmas.List.Elements.{All-push, All-get_or}
-use Rattle.range_flow.specs.Lifting.{IsLiftedIn, CanBeLifted}
+use Rattle.std.proofs.lemmas.List.Elements.{All-push}
+use Rattle.range_flow.specs.Lifting.{IsLiftedIn}
 use Rattle.range_flow.proofs.Placing.{mapped_on}
 use Rattle.range_flow.proofs.places.lifted_places.Goals as goal
 

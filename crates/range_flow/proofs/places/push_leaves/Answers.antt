@@ -1,5 +1,5 @@
-use Rattle.std.proofs.Common.{◌≡◌, ◌+◌, ◌++◌, ◌∷◌, [], get_or, ap, sym, ◌∙◌, arith}
-use Rattle.range_flow.specs.Nodes.{piece_of, pieces_of, leave_piece, total_of}
+use Rattle.std.proofs.Common.{◌≡◌, ◌++◌, ◌∷◌, [], get_or, arith}
+use Rattle.range_flow.specs.Nodes.{piece_of, pieces_of, leave_piece}
 use Rattle.range_flow.proofs.Placing.{mapped_more, leave_more}
 use Rattle.range_flow.proofs.places.push_leaves.Goals as goal
 
