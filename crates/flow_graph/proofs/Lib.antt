@@ -4,3 +4,4 @@ pub mod Firsts
 pub mod OnePlaces
 pub mod Walked
 pub mod Reading
+pub mod OneDiscoveries

@@ -64,7 +64,7 @@ keeps p (x ∷ xs) a h passes = by (p x) refl (has_either (x ∷ []) xs a h) (λ
     by false e (inr later) rest = rest later
 
 -- a list of lists has what one of them has
-in_concat : (xss : List (List ℕ)) (k a : ℕ) → k < length xss → Has (get_or xss k []) a → Has (concat xss) a
+pub in_concat : (xss : List (List ℕ)) (k a : ℕ) → k < length xss → Has (get_or xss k []) a → Has (concat xss) a
 in_concat [] k a lt h = absurd (omega (arith, lt))
 in_concat (xs ∷ xss) zero a lt h = has_left xs (concat xss) a h
 in_concat (xs ∷ xss) (suc k) a lt h = has_right xs (concat xss) a (in_concat xss k a (omega (arith, lt)) h)
@@ -84,13 +84,13 @@ zip_push R [] (b ∷ ys) x y h k = absurd h
 zip_push R (a ∷ xs) [] x y h k = absurd h
 zip_push R (a ∷ xs) (b ∷ ys) x y h k = (h.0, zip_push R xs ys x y h.1 k)
 
-zip_at : {A B : Type 0} (R : A → B → Type 0) (xs : List A) (ys : List B) (k : ℕ) (d : A) (e : B) → AllZip R xs ys → k < length xs → (k < length ys) × R (get_or xs k d) (get_or ys k e)
+pub zip_at : {A B : Type 0} (R : A → B → Type 0) (xs : List A) (ys : List B) (k : ℕ) (d : A) (e : B) → AllZip R xs ys → k < length xs → (k < length ys) × R (get_or xs k d) (get_or ys k e)
 zip_at R [] ys k d e h lt = absurd (omega (arith, lt))
 zip_at R (a ∷ xs) [] k d e h lt = absurd h
 zip_at R (a ∷ xs) (b ∷ ys) zero d e h lt = (omega arith, h.0)
 zip_at R (a ∷ xs) (b ∷ ys) (suc k) d e h lt = let p = zip_at R xs ys k d e h.1 (omega (arith, lt)) in (omega (arith, p.0), p.1)
 
-zip_length : {A B : Type 0} (R : A → B → Type 0) (xs : List A) (ys : List B) → AllZip R xs ys → length xs ≡ length ys
+pub zip_length : {A B : Type 0} (R : A → B → Type 0) (xs : List A) (ys : List B) → AllZip R xs ys → length xs ≡ length ys
 zip_length R [] [] h = refl
 zip_length R [] (b ∷ ys) h = absurd h
 zip_length R (a ∷ xs) [] h = absurd h
@@ -157,7 +157,7 @@ reaches_next m r at successors a h (list.begins i n b e) s =
 reaches_next m r at successors a h (list.none b e) s = absurd (none_has a (subst (λ l. Has l a) e s))
 
 -- and each of them is in the list
-next_there : (m : List Segment) (r : Range) (a n b : ℕ) (i : Inst) (successors : List ℕ) → BeginsAt m r a i n → Contains (successors_of i a (next_of a n)) b
+pub next_there : (m : List Segment) (r : Range) (a n b : ℕ) (i : Inst) (successors : List ℕ) → BeginsAt m r a i n → Contains (successors_of i a (next_of a n)) b
     → is_inside r b ≡ true → HasSuccessors m r a successors → Has successors b
 next_there m r a n b i successors begins s inside (list.begins j k other e) =
     let p = one_at m r a i j n k begins other in
