@@ -23,7 +23,6 @@ use Rattle.flow_graph.proofs.Walked.{reached_bounds}
 use Rattle.flow_graph.proofs.Reading.{inside_at, code_at}
 use Rattle.range_flow.specs.Lifting.{CanBeLifted}
 use Rattle.lift.specs.Given.{leaves_bare}
-use Rattle.range_flow.specs.Lifting.{CanBeLifted, leaves_bare}
 use Rattle.range_flow.proofs.FoundPlaces.{discovered_cover}
 use Rattle.range_flow.proofs.RangePlan.{all_by}
 
