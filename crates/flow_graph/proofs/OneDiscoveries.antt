@@ -1,5 +1,5 @@
 -- What is discovered of a range is determined.
-use Rattle.std.proofs.Common.{◌≡◌, ℕ, zero, suc, ◌+◌, ◌<◌, ◌≤◌, inl, inr, true, nat_eq, List, [], ◌∷◌, ◌++◌, length, take, drop, get_or, filter, fold, map, refl, sym, ap, ◌∙◌, subst, arith}
+use Rattle.std.proofs.Common.{◌≡◌, ℕ, zero, suc, ◌<◌, ◌≤◌, inl, inr, true, nat_eq, List, [], ◌∷◌, ◌++◌, length, take, drop, get_or, filter, fold, map, refl, sym, ap, ◌∙◌, subst, arith}
 use Rattle.std.specs.Prelude.{Contains}
 use Rattle.std.specs.List.{concat, AllZip, IsDistinct}
 use Rattle.std.proofs.lemmas.Bool.{cases_lt}
@@ -22,7 +22,7 @@ use Rattle.flow_graph.specs.Discovery.{with_new, firsts, number_in, HasSuccessor
 use Rattle.flow_graph.specs.Laws.{OneDiscovery}
 use Rattle.flow_graph.proofs.Firsts.{Has, Grows, has_left, has_right, has_one, has_all, grows_all, distinct_firsts}
 use Rattle.flow_graph.proofs.OnePlaces.{some_begins, one_at}
-use Rattle.flow_graph.proofs.Walked.{contains_has, has_contains, in_concat, zip_at, zip_length, next_there}
+use Rattle.flow_graph.proofs.Walked.{has_contains, in_concat, zip_at, next_there}
 
 -- ---- an address has one list of successors
 

@@ -1,15 +1,13 @@
 -- The code of a range that is frozen as a whole, and what begins at an address of it.
-use Rattle.std.proofs.Common.{◌≡◌, ℕ, zero, suc, ◌+◌, ◌-◌, ◌%◌, ◌^◌, ◌<◌, ◌≤◌, inl, inr, min, Bool, true, false, not, ◌&&◌, ◌==◌, nat_eq, if◌then◌else◌, List, [], ◌∷◌, length, take, drop, filter, Option, Some, None, refl, sym, ap, ◌∙◌, subst, arith, add-zero, length-drop}
-use Rattle.std.proofs.lemmas.Bool.{le-leb, lt-ltb, and_from, and_parts, both_ways, cases_eq, eq-eqb, ne_eqb}
-use Rattle.std.proofs.lemmas.List.{take_all}
+use Rattle.std.proofs.Common.{◌≡◌, ℕ, zero, suc, ◌+◌, ◌-◌, ◌%◌, ◌^◌, ◌<◌, ◌≤◌, min, Bool, true, false, not, ◌&&◌, ◌==◌, if◌then◌else◌, List, [], ◌∷◌, length, drop, filter, Option, Some, None, refl, sym, ap, ◌∙◌, subst, arith, add-zero}
+use Rattle.std.proofs.lemmas.Bool.{le-leb, lt-ltb, and_from, and_parts, both_ways, eq-eqb, ne_eqb}
 use Rattle.elf_image.specs.declared.image.Segment.{Segment}
 use Rattle.elf_image.specs.declared.range.Range.{Range}
 use Rattle.elf_image.specs.Image.{frozen_byte}
 use Rattle.elf_image.specs.Range.{is_inside, before_some, frozen_from, bytes_to_end}
 use Rattle.x86_inst.specs.declared.Inst.{Inst}
 use Rattle.x86_inst.specs.declared.Inst.TheVariants as inst
-use Rattle.x86_inst.specs.declared.Operand.{Operand}
-use Rattle.x86_decode.specs.Decodes.{Decodes, NoneBegins}
+use Rattle.x86_decode.specs.Decodes.{Decodes}
 use Rattle.x86_decode.specs.declared.decoder.Decoded.{Decoded}
 use Rattle.x86_decode.specs.declared.decoder.Decoded.TheVariants as decoded
 use Rattle.x86_model.specs.Rows.{is_bare}
@@ -19,10 +17,10 @@ use Rattle.machine.specs.Code.{BeginsAt}
 use Rattle.flow_graph.specs.declared.place.Cause.{Cause}
 use Rattle.flow_graph.specs.declared.place.Cause.TheVariants as cause
 use Rattle.flow_graph.specs.Reach.{next_of}
-use Rattle.flow_graph.specs.Place.{HasCause, HasIndirectJump, HasCallInside}
+use Rattle.flow_graph.specs.Place.{HasCause}
 use Rattle.flow_graph.specs.Discovery as list
 use Rattle.flow_graph.specs.Discovery.{HasSuccessors}
-use Rattle.flow_graph.specs.Sites.{inside_successors, call_cause, cause_of, found_successors, found_cause}
+use Rattle.flow_graph.specs.Sites.{call_cause, cause_of, found_successors, found_cause}
 use Rattle.flow_graph.proofs.Frozen.{entry_inside}
 use Rattle.flow_graph.proofs.OnePlaces.{some_begins, one_at}
 use Rattle.flow_graph.proofs.Walked.{CauseIs}

@@ -1,8 +1,8 @@
 -- What a walk over a range has found, turn by turn.
-use Rattle.std.proofs.Common.{◌≡◌, ◌≢◌, ◌↔◌, ℕ, zero, suc, ◌+◌, ◌-◌, ◌%◌, ◌^◌, ◌<◌, ◌≤◌, ◌⊎◌, inl, inr, Bool, true, false, not, cond, ◌||◌, ◌&&◌, ◌==◌, nat_eq, nat_lt, nat_le, if◌then◌else◌, List, [], ◌∷◌, ◌++◌, length, take, get_or, filter, fold, map, Option, Some, None, refl, sym, ap, ◌∙◌, subst, arith, append-nil, add-one, length-append}
+use Rattle.std.proofs.Common.{◌≡◌, ℕ, zero, suc, ◌+◌, ◌<◌, ◌≤◌, ◌⊎◌, inl, inr, Bool, true, false, cond, nat_eq, nat_lt, nat_le, if◌then◌else◌, List, [], ◌∷◌, ◌++◌, length, take, get_or, filter, fold, map, Option, Some, None, refl, sym, ap, ◌∙◌, subst, arith, append-nil, length-append}
 use Rattle.std.specs.Prelude.{Contains, slice_get}
 use Rattle.std.specs.List.{concat, AllZip, IsDistinct}
-use Rattle.std.proofs.lemmas.Bool.{both_ways, cases_eq, cases_lt, eq-eqb, ne_eqb, lt-ltb, le-ltb, leb-true, ltb-true, and_parts}
+use Rattle.std.proofs.lemmas.Bool.{both_ways, cases_eq, cases_lt, ne_eqb, lt-ltb, le-ltb, leb-true, ltb-true, and_parts}
 use Rattle.std.proofs.lemmas.Cmp.{nat_eq_equiv}
 use Rattle.std.proofs.lemmas.List.{map-append}
 use Rattle.std.proofs.lemmas.List.Folds.{concat-append}
@@ -10,7 +10,7 @@ use Rattle.std.proofs.lemmas.List.Sums.{fold-append}
 use Rattle.std.proofs.lemmas.Map.Views.{Contains-from_any, list_any-from_Contains}
 use Rattle.elf_image.specs.declared.image.Segment.{Segment}
 use Rattle.elf_image.specs.declared.range.Range.{Range}
-use Rattle.elf_image.specs.Range.{is_inside, bytes_to_end}
+use Rattle.elf_image.specs.Range.{is_inside}
 use Rattle.x86_inst.specs.declared.Inst.{Inst}
 use Rattle.x86_model.specs.Successors.{successors_of}
 use Rattle.machine.specs.Code.{BeginsAt}
@@ -19,11 +19,11 @@ use Rattle.flow_graph.specs.declared.place.Place.{Place}
 use Rattle.flow_graph.specs.declared.place.Cause.{Cause}
 use Rattle.flow_graph.specs.Reach as reach
 use Rattle.flow_graph.specs.Reach.{Reaches, next_of}
-use Rattle.flow_graph.specs.Place.{place_of, range_place, HasCause, HasNoPlace, IsLeastPlace, NamedPlace}
+use Rattle.flow_graph.specs.Place.{place_of, range_place, HasCause, HasNoPlace, NamedPlace}
 use Rattle.flow_graph.specs.Discovery as list
 use Rattle.flow_graph.specs.Discovery.{with_new, firsts, number_in, HasSuccessors, IsDiscovered}
-use Rattle.flow_graph.specs.Sites.{lesser, least_with}
-use Rattle.flow_graph.proofs.Firsts.{Has, Grows, has_left, has_right, has_either, has_one, only_one, none_has, has_all, all_or_old, grows_all, has_grown, numbers_stay, distinct_firsts, few_in_row}
+use Rattle.flow_graph.specs.Sites.{least_with}
+use Rattle.flow_graph.proofs.Firsts.{Has, Grows, has_left, has_right, has_either, has_one, only_one, none_has, has_all, all_or_old, grows_all, numbers_stay, distinct_firsts, few_in_row}
 use Rattle.flow_graph.proofs.OnePlaces.{some_begins, one_at}
 
 -- ---- lists

@@ -1,5 +1,5 @@
 -- The list of reached addresses and the graph of what follows what.
-use Rattle.std.specs.Prelude.{◌≡◌, ◌↔◌, ℕ, nat_eq, List, [], ◌∷◌, ◌++◌, Contains, fold, filter, map, if◌then◌else◌, MatchResult, Result}
+use Rattle.std.specs.Prelude.{◌≡◌, ◌↔◌, ℕ, nat_eq, List, [], ◌∷◌, ◌++◌, Contains, fold, filter, map, if◌then◌else◌}
 use Rattle.std.specs.List.{list_any, position_or_len, concat, AllZip}
 use Rattle.elf_image.specs.declared.image.Segment.{Segment}
 use Rattle.elf_image.specs.declared.range.Range.{Range}

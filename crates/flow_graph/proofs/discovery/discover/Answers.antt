@@ -1,4 +1,4 @@
-use Rattle.std.proofs.Common.{rules, ℕ, zero, suc, ◌≡◌, ◌++◌, ◌∷◌, length-append, Vec, Global, IfOk, OnOk, IfErr, Result, Ok, Err, ◌+◌, ◌-◌, ◌<◌, ◌≤◌, List, [], length, take, drop, map, length-drop, Option, Some, None, refl, sym, ap, subst, ◌∙◌, arith}
+use Rattle.std.proofs.Common.{rules, ℕ, zero, suc, ◌≡◌, ◌++◌, ◌∷◌, length-append, Vec, Global, IfOk, OnOk, IfErr, Result, Ok, Err, ◌+◌, ◌-◌, ◌<◌, ◌≤◌, List, [], length, take, drop, map, length-drop, Option, Some, None, sym, ap, subst, ◌∙◌, arith}
 use Rattle.std.proofs.lemmas.List.{length-map, take_all}
 use Rattle.elf_image.specs.declared.image.Segment.{Segment}
 use Rattle.elf_image.specs.declared.range.Range.{Range}
@@ -12,7 +12,7 @@ use Rattle.flow_graph.specs.Discovery.{IsDiscovered}
 use Rattle.std.specs.Prelude.{slice_get}
 use Rattle.flow_graph.proofs.Frozen.{entry_inside}
 use Rattle.flow_graph.proofs.Walked.{IsWalked, begins_walk, waiting_reached, reached_bounds, few_found, fewer_lists, turn, discovered, no_place, named_place}
-use Rattle.flow_graph.proofs.Reading.{IsCode, decoded_at, decoded_successors, decoded_cause, few_successors}
+use Rattle.flow_graph.proofs.Reading.{decoded_at, decoded_successors, decoded_cause, few_successors}
 use Rattle.flow_graph.proofs.discovery.discover.Goals as goal
 
 -- a place that waits is inside

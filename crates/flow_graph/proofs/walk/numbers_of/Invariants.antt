@@ -1,5 +1,4 @@
-use Rattle.std.proofs.Common.{◌≡◌, ◌+◌, ◌≤◌, fold, map, take, length}
-use Rattle.flow_graph.specs.Discovery.{with_new, number_in}
+use Rattle.std.proofs.Common.{take}
 use Rattle.flow_graph.proofs.Firsts.{AreNumbered}
 use Rattle.flow_graph.proofs.walk.numbers_of.Given as goal
 
