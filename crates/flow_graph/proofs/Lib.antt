@@ -5,3 +5,4 @@ pub mod OnePlaces
 pub mod Walked
 pub mod Reading
 pub mod OneDiscoveries
+pub mod Nodes

@@ -73,7 +73,7 @@ module _ (m : List Segment) (r : Range) (places : List ℕ) (g : Digraph) (d : I
   abbrev front : ℕ → List ℕ
   front k = firsts (r.entry ∷ concat (take k d.lists))
 
-  grows : (k : ℕ) → Grows (front k) places
+  pub grows : (k : ℕ) → Grows (front k) places
   grows k =
       let lists : concat d.lists ≡ concat (take k d.lists) ++ concat (drop k d.lists) = ap concat (sym (take-append-drop k d.lists)) ∙ concat-append (take k d.lists) (drop k d.lists) in
       let whole : places ≡ fold with_new (front k) (concat (drop k d.lists)) =

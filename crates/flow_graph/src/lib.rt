@@ -13,5 +13,5 @@ mod tests;
 mod walk;
 
 pub use discovery::discover;
-pub use laws::{one_discovery, one_place};
+pub use laws::{nodes_are_their_places, one_discovery, one_place};
 pub use place::{Cause, FlowFault, Found, Place};
