@@ -1,10 +1,10 @@
 -- Quotients below 32 bits by those of 32 bits: where one of the size is none, the words say so, else they have its parts.
-use Rattle.std.proofs.Common.{◌≡◌, ℕ, ℤ, pos, negsuc, ◌+◌, ◌-◌, ◌*◌, ◌/◌, ◌%◌, ◌^◌, ◌<◌, ◌≤◌, Bool, true, false, not, nat_eq, nat_le, nat_lt, ◌||◌, Option, Some, None, bit_or, refl, sym, ap, ◌∙◌, subst, arith}
+use Rattle.std.proofs.Common.{◌≡◌, ℕ, ℤ, pos, negsuc, ◌-◌, ◌/◌, ◌%◌, ◌^◌, ◌<◌, ◌≤◌, Bool, true, false, not, nat_eq, nat_le, nat_lt, ◌||◌, Option, Some, None, bit_or, refl, sym, ap, ◌∙◌, subst, arith}
 use Rattle.std.specs.Prelude.{if◌then◌else◌, int_div, int_rem, is_none}
 use Rattle.std.proofs.Math.Nat.{div-le_self, mod-eq_of_lt}
 use Rattle.std.proofs.lemmas.Bool.Decides.{nat_tests}
 use Rattle.std.proofs.lemmas.Int.{ints}
-use Rattle.std.proofs.lemmas.Nat.{mod_below, pow_pos}
+use Rattle.std.proofs.lemmas.Nat.{pow_pos}
 use Rattle.dream_words.specs.Words.{bit_of, fits_signed, low_part, quotient_of, shifted_signed, sign_bit, sign_extended, signed_part, signed_quotient_of, wide_number, word_of}
 use Rattle.x86_inst.specs.declared.Size.{Size}
 use Rattle.x86_inst.specs.declared.Size.TheVariants.{B, H, W}

@@ -1,14 +1,13 @@
 -- The statements of quotients trap where there is none, and else lead to quotient and remainder.
-use Rattle.std.proofs.Common.{◌≡◌, ℕ, ◌^◌, ◌<◌, Bool, true, false, nat_eq, nat_lt, if◌then◌else◌, List, [], ◌∷◌, ◌++◌, Option, Some, None, refl, sym, ap, ◌∙◌, subst}
+use Rattle.std.proofs.Common.{◌≡◌, ℕ, Bool, true, false, nat_eq, nat_lt, if◌then◌else◌, List, [], ◌∷◌, ◌++◌, Option, Some, None, refl, sym, ap, ◌∙◌, subst}
 use Rattle.std.specs.Prelude.{is_none}
-use Rattle.dream_words.specs.declared.machine.Flags.{Flags}
 use Rattle.dream_words.specs.declared.machine.Name.TheVariants as name
 use Rattle.dream_words.specs.declared.machine.Regs.{Regs}
 use Rattle.dream_words.specs.declared.outcome.Outcome.TheVariants as outcome
 use Rattle.dream_words.specs.Words.{bit_of, low_part}
 use Rattle.run_parts.specs.Effects.{Doing, set_word, trapping}
-use Rattle.run_parts.specs.Steps.{Next, Halt, Jam, End, To, arrive, having, then_do}
-use Rattle.run_parts.specs.World.{Names, World, regs_in}
+use Rattle.run_parts.specs.Steps.{Next, Halt, Jam, arrive, having, then_do}
+use Rattle.run_parts.specs.World.{Names, World}
 use Rattle.x86_inst.specs.declared.Size.{Size}
 use Rattle.x86_inst.specs.declared.Size.TheVariants.{B, H, W}
 use Rattle.x86_inst.specs.declared.Operand.{Operand}
@@ -27,7 +26,7 @@ use Rattle.c_words.specs.Built.{num}
 use Rattle.micro_ir.specs.declared.flow.Stmt.{Stmt}
 use Rattle.micro_ir.specs.declared.flow.Stmt.TheVariants as stmt
 use Rattle.micro_ir.specs.declared.flow.End.TheVariants as end
-use Rattle.micro_ir.specs.Run.{block_leads, end_leads, stmt_does, stmts_do}
+use Rattle.micro_ir.specs.Run.{block_leads, end_leads, stmts_do}
 use Rattle.lift_parts.specs.Lifted.{Matches, through}
 use Rattle.lift_parts.specs.Parts.{reads, temp}
 use Rattle.lift_parts.specs.Shown.{AreNames, Runs}
@@ -167,9 +166,9 @@ module _ (signed : Bool) (size : Size) (s : Operand) (a : Step) (w u : World) (r
       let (t, last, sets) = pair_runs size r q u2 h2.names f g in (
         t,
         runs_append (reads size s) _ runs
-        (set_runs (name.T 1) (divided_word (quotient_function signed) signed size s) (quotient p) (quotient_value signed s a size u.names h0)
-        (trap_runs 0 (bad_word signed size s) (bad_is signed s a size kept.names kept_sees refl ∙ ap Some e)
-        (set_runs (name.T 2) (divided_word (remainder_function signed) signed size s) (remainder p) (remainder_value signed s a size kept.names kept_sees) last))),
+            (set_runs (name.T 1) (divided_word (quotient_function signed) signed size s) (quotient p) (quotient_value signed s a size u.names h0)
+            (trap_runs 0 (bad_word signed size s) (bad_is signed s a size kept.names kept_sees refl ∙ ap Some e)
+            (set_runs (name.T 2) (divided_word (remainder_function signed) signed size s) (remainder p) (remainder_value signed s a size kept.names kept_sees) last))),
         record {
           regs = sym (sets.regs ∙ ap (λ k. with_pair size k r q) read.shows.regs);
           flags = record { c = tt; p = tt; z = tt; s = tt; o = tt };

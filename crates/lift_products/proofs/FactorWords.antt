@@ -1,14 +1,13 @@
 -- What the words of factors give, and what they see.
-use Rattle.std.proofs.Common.{◌≡◌, ℕ, ◌^◌, ◌<◌, Bool, true, false, not, nat_eq, Some, refl, ap, ◌∙◌, arith}
-use Rattle.dream_words.specs.declared.machine.Bit.TheVariants.{Zero, One}
+use Rattle.std.proofs.Common.{◌≡◌, ℕ, ◌^◌, ◌<◌, Bool, true, false, Some, refl, ap, ◌∙◌, arith}
 use Rattle.dream_words.specs.declared.machine.Name.TheVariants as name
-use Rattle.dream_words.specs.Words.{bit_of, low_part, sign_extended}
+use Rattle.dream_words.specs.Words.{bit_of}
 use Rattle.run_parts.specs.World.{Names, with_name}
 use Rattle.x86_inst.specs.declared.Size.{Size}
 use Rattle.x86_inst.specs.declared.Operand.{Operand}
 use Rattle.x86_model.specs.declared.effect.Step.{Step}
 use Rattle.x86_model.specs.Arithmetic.{flag_if}
-use Rattle.x86_model.specs.Operands.{bits_of, value_of}
+use Rattle.x86_model.specs.Operands.{value_of}
 use Rattle.c_syntax.specs.declared.syntax.CCmp.{CCmp}
 use Rattle.c_syntax.specs.declared.syntax.CExpr.{CExpr}
 use Rattle.c_syntax.specs.declared.syntax.CFn3.{CFn3}

@@ -1,5 +1,5 @@
 -- The blocks of products are those of their instructions.
-use Rattle.std.proofs.Common.{◌≡◌, ℕ, Bool, true, false, [], ◌∷◌, refl, lit≤}
+use Rattle.std.proofs.Common.{ℕ, Bool, true, false, [], ◌∷◌, refl, lit≤}
 use Rattle.std.specs.Prelude.{IsTrue}
 use Rattle.std.proofs.lemmas.Bool.{ltb-true}
 use Rattle.dream_words.specs.declared.machine.Name.TheVariants as name

@@ -1,5 +1,5 @@
 -- The words of a product have its parts and its overflow.
-use Rattle.std.proofs.Common.{◌≡◌, ◌⊎◌, ℕ, ℤ, zero, suc, pos, negsuc, neg_ℤ, ◌+◌, ◌-◌, ◌*◌, ◌/◌, ◌%◌, ◌^◌, ◌<◌, ◌≤◌, ◌*ℤ◌, ◌-ℤ◌, Bool, true, false, not, nat_eq, nat_le, int_le, if◌then◌else◌, refl, sym, ap, ◌∙◌, arith, inl, inr}
+use Rattle.std.proofs.Common.{◌≡◌, ℕ, ℤ, zero, suc, pos, negsuc, neg_ℤ, ◌+◌, ◌-◌, ◌*◌, ◌/◌, ◌%◌, ◌^◌, ◌<◌, ◌≤◌, ◌*ℤ◌, ◌-ℤ◌, Bool, true, false, not, nat_eq, nat_le, int_le, if◌then◌else◌, refl, sym, ap, ◌∙◌, arith, inr}
 use Rattle.std.proofs.Math.Nat.{mod-eq_of_lt, mul-le-mul, div-le_self}
 use Rattle.std.proofs.lemmas.Bool.Decides.{nat_tests}
 use Rattle.std.proofs.lemmas.Int.{ints}
@@ -12,7 +12,7 @@ use Rattle.x86_model.specs.Operands.{bits_of}
 use Rattle.x86_model.proofs.Halves.{overflows_by_word}
 use Rattle.lift_parts.proofs.Values.{low_again, word_fits}
 use Rattle.lift_blocks.proofs.MoveWords.{extended_below, extended_by, extended_is}
-use Rattle.lift_products.proofs.Factors.{factor_of, product_of, high_value, high_part, overflow_value, overflows, IsProduct}
+use Rattle.lift_products.proofs.Factors.{factor_of, product_of, high_value, overflow_value, IsProduct}
 use Rattle.lift_products.proofs.Wholes.{product_taken, low_of_word, extended_signed, fits_byte_is, fits_half_is}
 
 -- ---- low parts

@@ -1,10 +1,9 @@
 -- The statements of products lead to the product and its overflow.
-use Rattle.std.proofs.Common.{◌≡◌, ℕ, ◌*◌, ◌/◌, ◌%◌, ◌^◌, ◌<◌, Bool, true, false, not, nat_eq, ◌++◌, Some, refl, sym, ap, ◌∙◌, subst}
-use Rattle.dream_words.specs.declared.machine.Flags.{Flags}
+use Rattle.std.proofs.Common.{◌≡◌, ℕ, ◌*◌, ◌/◌, ◌%◌, ◌^◌, Bool, true, false, not, nat_eq, Some, refl, sym, ap, ◌∙◌, subst}
 use Rattle.dream_words.specs.declared.machine.Name.TheVariants as name
-use Rattle.dream_words.specs.Words.{bit_of, low_part, sign_extended, shifted_signed}
+use Rattle.dream_words.specs.Words.{bit_of, sign_extended, shifted_signed}
 use Rattle.run_parts.specs.Effects.{set_word}
-use Rattle.run_parts.specs.World.{Names, World, regs_in}
+use Rattle.run_parts.specs.World.{Names, World}
 use Rattle.x86_inst.specs.declared.Inst.TheVariants as i
 use Rattle.x86_inst.specs.declared.Size.{Size}
 use Rattle.x86_inst.specs.declared.Size.TheVariants.{B, H, W}
@@ -28,7 +27,7 @@ use Rattle.lift_parts.specs.Stands.{FlagsStand, StandsFor, state_in}
 use Rattle.lift_parts.proofs.Chains.{runs_append, set_runs}
 use Rattle.lift_parts.proofs.Kept.{AfterRead, reads_run}
 use Rattle.lift_parts.proofs.Values.{value_fits}
-use Rattle.lift_parts.proofs.Writes.{names_set, part_runs}
+use Rattle.lift_parts.proofs.Writes.{part_runs}
 use Rattle.lift_blocks.specs.Effects.{GoesOn, LeadsOn}
 use Rattle.lift_blocks.specs.Extended.{extended}
 use Rattle.lift_blocks.proofs.Common.{by_step}
@@ -130,10 +129,10 @@ wide_leads signed size s a w u r read h0 =
     let (t, runs, sets) = pair_runs size (high_part signed size x y) (x * y % 2 ^ bits_of size) u4 h4.names is.low is.high in (
       t,
       runs_append (reads size s) _ r
-      (set_runs (name.T 1) (product_word signed size (o.Reg 0) s) low (product_value signed size (o.Reg 0) s a u.names h0)
-      (set_runs (name.T 2) (high_word signed size (o.Reg 0) s) high (high_is signed size (o.Reg 0) s a u1.names h1 refl)
-      (set_runs (name.Flag 4) (wide_overflow signed size) (bit_of b) (wide_overflow_is signed size u2.names low high h2.names refl refl ∙ ap (λ c. Some (bit_of c)) is.overflow)
-      (set_runs (name.Flag 0) (wide_overflow signed size) (bit_of b) (wide_overflow_is signed size u3.names low high h3.names refl refl ∙ ap (λ c. Some (bit_of c)) is.overflow) runs)))),
+          (set_runs (name.T 1) (product_word signed size (o.Reg 0) s) low (product_value signed size (o.Reg 0) s a u.names h0)
+          (set_runs (name.T 2) (high_word signed size (o.Reg 0) s) high (high_is signed size (o.Reg 0) s a u1.names h1 refl)
+          (set_runs (name.Flag 4) (wide_overflow signed size) (bit_of b) (wide_overflow_is signed size u2.names low high h2.names refl refl ∙ ap (λ c. Some (bit_of c)) is.overflow)
+          (set_runs (name.Flag 0) (wide_overflow signed size) (bit_of b) (wide_overflow_is signed size u3.names low high h3.names refl refl ∙ ap (λ c. Some (bit_of c)) is.overflow) runs)))),
       record {
         regs = sym (sets.regs ∙ ap (λ r. with_pair size r (high_part signed size x y) (x * y % 2 ^ bits_of size)) read.shows.regs);
         flags = overflow_stands b t.names (sets.flags 0) (sets.flags 4);
@@ -177,9 +176,9 @@ times_leads size d p q s a w u r read h0 =
     let (t, runs, sets) = part_runs size d (temp 1) low value u3 h3.names (name_value u3.names (name.T 1)) (product_word_below true size x y) is.low in (
       t,
       runs_append (reads size s) _ r
-      (set_runs (name.T 1) (product_word true size p q) low (product_value true size p q a u.names h0)
-      (set_runs (name.Flag 4) (times_overflow size p q) (bit_of b) (times_overflow_is size p q a u1.names low h1 refl ∙ ap (λ c. Some (bit_of c)) is.overflow)
-      (set_runs (name.Flag 0) (times_overflow size p q) (bit_of b) (times_overflow_is size p q a u2.names low h2 refl ∙ ap (λ c. Some (bit_of c)) is.overflow) runs))),
+          (set_runs (name.T 1) (product_word true size p q) low (product_value true size p q a u.names h0)
+          (set_runs (name.Flag 4) (times_overflow size p q) (bit_of b) (times_overflow_is size p q a u1.names low h1 refl ∙ ap (λ c. Some (bit_of c)) is.overflow)
+          (set_runs (name.Flag 0) (times_overflow size p q) (bit_of b) (times_overflow_is size p q a u2.names low h2 refl ∙ ap (λ c. Some (bit_of c)) is.overflow) runs))),
       record {
         regs = sym (sets.regs ∙ ap (λ r. with_part size r d value) read.shows.regs);
         flags = overflow_stands b t.names (sets.flags 0) (sets.flags 4);

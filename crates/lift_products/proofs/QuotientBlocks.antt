@@ -1,5 +1,5 @@
 -- The blocks of quotients are those of their instructions.
-use Rattle.std.proofs.Common.{◌≡◌, ℕ, Bool, true, false, List, [], ◌∷◌, refl, lit≤, lit<}
+use Rattle.std.proofs.Common.{ℕ, Bool, true, false, List, [], ◌∷◌, refl, lit≤, lit<}
 use Rattle.std.specs.Prelude.{IsTrue}
 use Rattle.dream_words.specs.declared.machine.Name.TheVariants as name
 use Rattle.x86_inst.specs.declared.Inst.TheVariants as i

@@ -3,7 +3,7 @@ use Rattle.std.proofs.Common.{◌≡◌, ℕ, ℤ, suc, pos, negsuc, neg_ℤ, �
 use Rattle.std.proofs.Math.Nat.{div-add-mod', mod-eq_of_lt, mod-add-mod, mul-mod_left, add-mul-mod_self_right, mul_comm}
 use Rattle.std.proofs.lemmas.Bool.Decides.{nat_tests}
 use Rattle.std.proofs.lemmas.Int.{ints, int_rem_euclid_is}
-use Rattle.std.proofs.lemmas.Nat.{mod_below, mul-mod, pow_pos}
+use Rattle.std.proofs.lemmas.Nat.{mod_below, mul-mod}
 use Rattle.dream_words.specs.Words.{low_part, sign_bit, sign_extended, signed_part, fits_signed, word_of, wide_number, shifted_signed}
 use Rattle.x86_inst.specs.declared.Size.{Size}
 use Rattle.x86_inst.specs.declared.Size.TheVariants.{B, H, W}

@@ -1,5 +1,5 @@
 -- The words of products keep the rule of flows, and are safe.
-use Rattle.std.proofs.Common.{◌≡◌, ℕ, ◌+◌, ◌≤◌, Bool, true, false, List, [], ◌∷◌, refl, lit≤, lit<, arith}
+use Rattle.std.proofs.Common.{ℕ, ◌+◌, ◌≤◌, Bool, true, false, List, [], ◌∷◌, refl, lit≤, lit<, arith}
 use Rattle.std.specs.Prelude.{IsTrue}
 use Rattle.dream_words.specs.declared.machine.Name.{Name}
 use Rattle.dream_words.specs.declared.machine.Name.TheVariants as name
@@ -17,11 +17,11 @@ use Rattle.micro_ir.specs.declared.flow.Stmt.{Stmt}
 use Rattle.micro_ir.specs.declared.flow.Stmt.TheVariants as stmt
 use Rattle.micro_ir.specs.Rule.{is_flow_target, is_flow_word}
 use Rattle.lift_parts.specs.Parts.{temp, raw_word, set_part}
-use Rattle.lift_parts.proofs.Fit.{IsFit, AreFit, both_hold, bin_fit, deeper, fit_append, fit_word, more_fit, none_fit, num_fit, raw_fit, shr_fit, temp_fit, value_fit}
+use Rattle.lift_parts.proofs.Fit.{IsFit, AreFit, both_hold, bin_fit, deeper, fit_append, fit_word, more_fit, num_fit, raw_fit, shr_fit, temp_fit, value_fit}
 use Rattle.lift_parts.proofs.FitShapes.{cmp_fit, fn1_fit, fn2_fit, word_if_fit}
 use Rattle.lift_parts.proofs.FitWrites.{set_part_fit}
 use Rattle.lift_blocks.specs.Extended.{extended}
-use Rattle.lift_products.specs.Parts.{factor, high_register, pair_writes, sets_overflow, unfit_signed}
+use Rattle.lift_products.specs.Parts.{factor, high_register, pair_writes, unfit_signed}
 use Rattle.lift_products.specs.Products.{high_function, high_product_word, high_word, product_word, times_overflow, unfit_high, wide_overflow}
 
 -- one set before others, none of which stores

@@ -7,5 +7,5 @@ mod products;
 mod quotients;
 mod words;
 
-pub use products::{imul2, imul3, imul_wide, mul};
+pub use products::{imul_wide, imul2, imul3, mul};
 pub use quotients::{div, idiv};

@@ -100,13 +100,7 @@ fn wide_overflow(alloc: Global, signed: bool, size: Size) -> Result<Expr, AllocE
 }
 
 // The block of MUL, and of IMUL of one operand.
-fn wide(
-    alloc: Global,
-    at: u32,
-    signed: bool,
-    size: Size,
-    s: Operand,
-) -> Result<Block, AllocError>
+fn wide(alloc: Global, at: u32, signed: bool, size: Size, s: Operand) -> Result<Block, AllocError>
     ensures { IfOk result (λ b. b ≡ goes_on_of at (wide_stmts signed size s)) }
 {
     let product = product_word(alloc, signed, size, Operand::Reg(0), s)?;

@@ -138,13 +138,7 @@ fn bad_word(alloc: Global, signed: bool, size: Size, s: Operand) -> Result<Expr,
 }
 
 // The block of DIV and of IDIV.
-fn divide(
-    alloc: Global,
-    at: u32,
-    signed: bool,
-    size: Size,
-    s: Operand,
-) -> Result<Block, AllocError>
+fn divide(alloc: Global, at: u32, signed: bool, size: Size, s: Operand) -> Result<Block, AllocError>
     ensures { IfOk result (λ b. b ≡ goes_on_of at (divide_stmts signed size s)) }
 {
     let quotient = divided_word(alloc, quotient_function(signed), signed, size, s)?;

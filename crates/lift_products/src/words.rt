@@ -60,11 +60,7 @@ pub(crate) fn unfit_signed(alloc: Global, size: Size) -> Result<Expr, AllocError
 }
 
 /// Sets OF and CF to a word, and CF last.
-pub(crate) fn push_overflow(
-    alloc: Global,
-    stmts: &mut Vec<Stmt>,
-    e: Expr,
-) -> Result<(), AllocError>
+pub(crate) fn push_overflow(alloc: Global, stmts: &mut Vec<Stmt>, e: Expr) -> Result<(), AllocError>
     ensures { OnOk result (stmts.new.items ≡ stmts.old.items ++ sets_overflow e) }
 {
     let overflow = copy_word(alloc, &e)?;
