@@ -16,3 +16,4 @@ mod Lines
 mod LineFormed
 mod Whole
 pub mod Stepping
+mod Ending

@@ -9,5 +9,5 @@ mod one_line;
 mod one_loop;
 mod trees;
 
-pub use laws::following_agrees;
+pub use laws::{following_agrees, straight_is_exact};
 pub use trees::{plain, straight};
