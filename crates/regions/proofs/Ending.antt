@@ -1,5 +1,5 @@
 -- There is a straight tree exactly where the line from the entry on comes to an end.
-use Rattle.std.proofs.Common.{◌≡◌, ◌↔◌, ℕ, zero, suc, ◌+◌, ◌<◌, ◌≤◌, Bool, true, false, not, ◌&&◌, ◌||◌, nat_eq, eqb, if◌then◌else◌, List, [], ◌∷◌, length, Option, Some, None, refl, sym, ap, ◌∙◌, subst, arith}
+use Rattle.std.proofs.Common.{◌≡◌, ℕ, zero, suc, ◌<◌, ◌≤◌, Bool, true, false, not, ◌||◌, nat_eq, eqb, if◌then◌else◌, List, [], ◌∷◌, length, Option, Some, None, refl, sym, ap, ◌∙◌, subst, arith}
 use Rattle.std.specs.Prelude.{slice_get, IsSome, is_some}
 use Rattle.std.specs.List.{list_any, IsDistinct, AllByRecursion}
 use Rattle.std.proofs.lemmas.Map.Keys.{IsDistinct-cons}
@@ -7,13 +7,12 @@ use Rattle.std.proofs.lemmas.Map.Steps.{length-le_from_distinct_below}
 use Rattle.run_parts.specs.Parts.{has}
 use Rattle.c_syntax.specs.Formed.{are_distinct}
 use Rattle.micro_ir.specs.declared.flow.Block.{Block}
-use Rattle.micro_ir.specs.declared.flow.Flow.{Flow}
 use Rattle.micro_ir.proofs.Values.{both_true}
 use Rattle.guarded.specs.declared.tree.Tree.{Tree}
 use Rattle.regions.specs.declared.one_line.Way.{Way}
 use Rattle.regions.specs.declared.one_line.Way.TheVariants.{On, Over, Splits}
 use Rattle.regions.specs.Plain.{block_tree}
-use Rattle.regions.specs.Straight.{way_of, way_at, with_rest, on_way, from_block, line, in_line, straight_tree, goes_on, way_after, StraightIsExact}
+use Rattle.regions.specs.Straight.{way_at, with_rest, on_way, from_block, line, in_line, goes_on, way_after, StraightIsExact}
 use Rattle.regions.proofs.Standing.{number_is}
 use Rattle.regions.proofs.FlowWords.{and_true}
 use Rattle.regions.proofs.Lines.{every_line}
@@ -31,6 +30,7 @@ apart_all (y ∷ ys) x h = (first (eqb x y) (has ys x) h, apart_all ys x (rest (
     first : (b p : Bool) → (if b then true else p) ≡ false → b ≡ false
     first true p e = e
     first false p e = refl
+
     rest : (b p : Bool) → (if b then true else p) ≡ false → p ≡ false
     rest true p e = absurd (let z : ⊥ = cc in z)
     rest false p e = e
@@ -163,6 +163,7 @@ line_some bs n None e h = absurd (let z : ⊥ = cc in z)
 line_some bs n (Some ts) e h = some_ends bs (length bs) n ts e
 
 pub exact : StraightIsExact
-exact f =
-    (line_some f.blocks f.entry (line f.blocks (length f.blocks) f.entry) refl,
-    λ h. tree_some (line f.blocks (length f.blocks) f.entry) (ends_some f.blocks h.0 f.entry h.1))
+exact f = (
+  line_some f.blocks f.entry (line f.blocks (length f.blocks) f.entry) refl,
+  λ h. tree_some (line f.blocks (length f.blocks) f.entry) (ends_some f.blocks h.0 f.entry h.1),
+)
