@@ -17,3 +17,4 @@ mod LineFormed
 mod Whole
 pub mod Stepping
 mod Ending
+mod Worked

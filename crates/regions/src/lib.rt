@@ -7,6 +7,8 @@ mod copy;
 mod laws;
 mod one_line;
 mod one_loop;
+#[cfg(test)]
+mod tests;
 mod trees;
 
 pub use laws::{following_agrees, straight_is_exact};
