@@ -67,7 +67,7 @@ numbers_layer y = e.fold-roll-CExpr Bool Bool cond_names word_numbers y
 numbers_cond_layer : (y : CCond-F CCond CExpr) → numbers_cond (roll-CCond y) ≡ cond_names (c.map-CCond CCond CExpr Bool Bool numbers_cond numbers_word y)
 numbers_cond_layer y = c.fold-roll-CCond Bool Bool cond_names word_numbers y
 
-cond_names_layer : (y : CCond-F CCond CExpr) → cond_has_flow_names (roll-CCond y) ≡ cond_names (c.map-CCond CCond CExpr Bool Bool cond_has_flow_names has_flow_names y)
+pub cond_names_layer : (y : CCond-F CCond CExpr) → cond_has_flow_names (roll-CCond y) ≡ cond_names (c.map-CCond CCond CExpr Bool Bool cond_has_flow_names has_flow_names y)
 cond_names_layer y = c.fold-roll-CCond Bool Bool cond_names word_names y
 
 pub word_uses_layer : (y : CExpr-F CCond CExpr) → word_uses (roll-CExpr y) ≡ word_uses_at (e.map-CExpr CCond CExpr (List Use) (List Use) cond_uses word_uses y)

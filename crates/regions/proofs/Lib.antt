@@ -16,3 +16,5 @@ mod Lines
 mod LineFormed
 mod Whole
 pub mod Stepping
+mod Ending
+mod Worked

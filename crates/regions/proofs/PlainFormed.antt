@@ -96,7 +96,7 @@ selects_allowed e inside h = ap (λ g. g inside) (allowed_layer (Tree-F.Set sele
 num_numbers : (n : ℕ) → n < 2 ^ 32 → IsTrue (numbers_word (built.num n))
 num_numbers n l = numbers_layer (CExpr-F.Num n) ∙ lt_true n (2 ^ 32) l
 
-num_deep : (n : ℕ) → word_depth (built.num n) ≡ 1
+pub num_deep : (n : ℕ) → word_depth (built.num n) ≡ 1
 num_deep n = word_depth_layer (CExpr-F.Num n)
 
 num_fit : (n : ℕ) → n < 2 ^ 32 → IsTrue (word_fits (built.num n))

@@ -1,5 +1,5 @@
 -- The tree of a flow that is one line of blocks.
-use Rattle.std.specs.Prelude.{ℕ, zero, suc, nat_eq, if◌then◌else◌, List, [], ◌∷◌, ◌++◌, Option, Some, None, length, slice_get}
+use Rattle.std.specs.Prelude.{◌≡◌, ◌↔◌, IsSome, ℕ, zero, suc, nat_eq, if◌then◌else◌, List, [], ◌∷◌, ◌++◌, Option, Some, None, length, slice_get}
 use Rattle.micro_ir.specs.declared.flow.End.{End as BlockEnd}
 use Rattle.micro_ir.specs.declared.flow.End.TheVariants as end
 use Rattle.micro_ir.specs.declared.flow.Block.{Block}
@@ -59,3 +59,18 @@ in_line (Some ts) = Some (roll-Tree (Tree-F.Seq ts))
 -- A line of more blocks than the flow has comes to one of them twice, so it never ends.
 abbrev pub straight_tree : Flow → Option Tree
 straight_tree f = in_line (line f.blocks (length f.blocks) f.entry)
+
+-- where the line goes on after its first block
+abbrev pub goes_on : Way → (ℕ → Way) → Way
+goes_on (On a) next = next a
+goes_on Over next = Over
+goes_on Splits next = Splits
+
+-- where it goes on after so many blocks, from the block of a number on
+abbrev pub way_after : List Block → ℕ → ℕ → Way
+way_after blocks zero n = On n
+way_after blocks (suc k) n = goes_on (way_at (slice_get blocks n)) (way_after blocks k)
+
+-- There is a straight tree exactly where the line from the entry on is over after some number of blocks.
+abbrev pub StraightIsExact : Type 0
+StraightIsExact = (f : Flow) → IsSome (straight_tree f) ↔ ((k : ℕ) × (way_after f.blocks k f.entry ≡ Over))
