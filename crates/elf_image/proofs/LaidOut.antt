@@ -1,6 +1,6 @@
 -- The segments of a file without a fault are laid out.
-use Rattle.std.proofs.Common.{◌≡◌, ℕ, zero, suc, ◌+◌, ◌-◌, ◌^◌, ◌<◌, ◌≤◌, Bool, true, false, cond, nat_lt, List, [], ◌∷◌, ◌++◌, length, take, drop, Option, Some, None, refl, sym, subst, ap, inl, inr, arith, ltb-false, length-take, append-nil}
-use Rattle.std.specs.Prelude.{◌||◌, ◌&&◌, is_some, min, max}
+use Rattle.std.proofs.Common.{◌≡◌, ℕ, zero, suc, ◌+◌, ◌^◌, ◌<◌, ◌≤◌, Bool, true, false, nat_lt, List, [], ◌∷◌, ◌++◌, length, drop, Option, Some, None, refl, sym, subst, inl, inr, arith, ltb-false, length-take, append-nil}
+use Rattle.std.specs.Prelude.{◌||◌, is_some, min, max}
 use Rattle.std.proofs.lemmas.Bool.{cases_Bool, and_cases, or_parts, both_ways, and_from, lt-ltb}
 use Rattle.elf_image.specs.declared.image.Segment.{Segment}
 use Rattle.elf_image.specs.Header.{entry_count, is_load, offset_of, address_of, file_size_of, size_of}
