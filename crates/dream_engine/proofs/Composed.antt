@@ -1,5 +1,8 @@
 -- The function of a tree that follows the flow of a range is a function of the range.
-use Rattle.std.proofs.Common.{◌≡◌, ◌⊎◌, inl, inr, ℕ, List, Option, sym, subst, ◌∙◌}
+use Rattle.std.proofs.Common.{◌≡◌, ◌⊎◌, inl, inr, ℕ, List, Option, Ok, Err, sym, ap, subst, ◌∙◌}
+use Rattle.std.specs.Prelude.{IfOk, Result}
+use Rattle.std.specs.declared.alloc.AllocError.{AllocError}
+use Rattle.c_emit.specs.Emitted.{emitted}
 use Rattle.std.proofs.Math.Path.{fun_ext}
 use Rattle.elf_image.specs.declared.image.Segment.{Segment}
 use Rattle.elf_image.specs.declared.range.Range.{Range}
@@ -13,23 +16,23 @@ use Rattle.c_syntax.specs.declared.syntax.CFun.{CFun}
 use Rattle.c_emit.specs.Laws.{IsTreeOf}
 use Rattle.flow_graph.specs.Place.{HasNoPlace}
 use Rattle.range_flow.specs.Flow.{AreCovering, IsFlowOf}
-use Rattle.range_flow.specs.Laws.{FlowsAgree}
-use Rattle.regions.specs.Follows.{Follows, FollowingAgrees}
+use Rattle.range_flow.proofs.RangePlan.{flows_agree}
+use Rattle.regions.specs.Follows.{Follows}
+use Rattle.regions.proofs.Agreed.{following}
 use Rattle.regions.specs.Laws.{IsPlainOf, IsStraightOf}
 use Rattle.dream_engine.specs.declared.form.Form.{Form}
 use Rattle.dream_engine.specs.declared.form.Form.TheVariants.{Structured, Plain}
 use Rattle.dream_engine.specs.Agreement.{Agrees, HasForm, IsSelectorLoop, IsStraightLine, IsFunctionOf}
 use Rattle.dream_engine.specs.Tree.{IsTreeIn}
 
-module _ (flows_agree : FlowsAgree) (following_agrees : FollowingAgrees) where
-  -- what the tree's function agrees with
-  agrees_by : (m : List Segment) (r : Range) (places : List ℕ) (flow : Flow) (t : Tree) (f : CFun) → AreCovering m r places → IsFlowOf m r places flow → Follows flow t → IsTreeOf t f
+-- what the tree's function agrees with
+agrees_by : (m : List Segment) (r : Range) (places : List ℕ) (flow : Flow) (t : Tree) (f : CFun) → AreCovering m r places → IsFlowOf m r places flow → Follows flow t → IsTreeOf t f
       → f.address ≡ r.entry → Agrees m r f
-  agrees_by m r places flow t f covering is follows of e = record {
-    address = e;
-    runs = λ decoded d start s answers a. subst (λ run. Agreeing (machine_run m r decoded start answers) run) (sym (fun_ext (λ k. of.runs start answers k)))
-        (following_agrees (machine_run m r decoded start answers) flow t start answers (flows_agree m r decoded places flow start answers d covering is s a) follows);
-  }
+agrees_by m r places flow t f covering is follows of e = record {
+  address = e;
+  runs = λ decoded d start s answers a. subst (λ run. Agreeing (machine_run m r decoded start answers) run) (sym (fun_ext (λ k. of.runs start answers k)))
+      (following (machine_run m r decoded start answers) flow t start answers (flows_agree m r decoded places flow start answers d covering is s a) follows);
+}
 
 plain_form : (flow : Flow) (t : Tree) (f : CFun) → IsPlainOf flow t → IsTreeOf t f → IsSelectorLoop f
 plain_form flow t f p of = (of.loops ∙ p.loops, of.selectors p.formed ∙ p.selectors)
@@ -53,11 +56,17 @@ tree_follows Structured flow t (inl p) = p.follows
 tree_follows Structured flow t (inr p) = p.follows
 
 -- all of it
-pub composed : FlowsAgree → FollowingAgrees → (form : Form) (m : List Segment) (r : Range) (places : List ℕ) (flow : Flow) (t : Tree) (f : CFun) → HasNoPlace m r → AreCovering m r places
+pub composed : (form : Form) (m : List Segment) (r : Range) (places : List ℕ) (flow : Flow) (t : Tree) (f : CFun) → HasNoPlace m r → AreCovering m r places
     → IsFlowOf m r places flow → IsTreeIn form flow t → IsTreeOf t f → f.address ≡ r.entry → IsFunctionOf form m r f
-composed flows following form m r places flow t f none covering is p of e = record {
+composed form m r places flow t f none covering is p of e = record {
   no_place = none;
   formed = of.formed (tree_formed form flow t p);
   in_form = has_form form flow t f p of;
-  agrees = agrees_by flows following m r places flow t f covering is (tree_follows form flow t p) of e;
+  agrees = agrees_by m r places flow t f covering is (tree_follows form flow t p) of e;
 }
+
+-- the function that is made of the tree, where one is
+pub composed_result : (form : Form) (m : List Segment) (r : Range) (places : List ℕ) (flow : Flow) (t : Tree) (o : Result CFun AllocError) → HasNoPlace m r → AreCovering m r places
+    → IsFlowOf m r places flow → IsTreeIn form flow t → IfOk o (λ f. f ≡ emitted t r.entry) → IfOk o (λ f. IsTreeOf t f) → IfOk o (IsFunctionOf form m r)
+composed_result form m r places flow t (Ok f) none covering is p e of = composed form m r places flow t f none covering is p of (ap (λ g. g.address) e)
+composed_result form m r places flow t (Err x) none covering is p e of = tt

@@ -3,7 +3,8 @@
 ghost use Rattle.std.specs.Prelude.{◌≡◌, IfOk, IfErr};
 ghost use Rattle.dream_engine.specs.Agreement.{IsDecompiled, IsFunctionOf};
 ghost use Rattle.dream_engine.specs.Tree.{IsTreeIn};
-ghost use Rattle.flow_graph.specs.Place.{HasNoText};
+ghost use Rattle.flow_graph.specs.Discovery.{IsDiscovered};
+ghost use Rattle.flow_graph.specs.Place.{HasNoPlace, HasNoText};
 ghost use Rattle.micro_ir.specs.Rule.{IsGiven};
 
 use crate::form::Form;
@@ -11,11 +12,11 @@ use c_emit::emit;
 use c_print::print;
 use c_syntax::{CFun, canonical_stands};
 use elf_image::{Image, Range};
-use flow_graph::{FlowFault, discover};
+use flow_graph::{FlowFault, Found, discover};
 use guarded::Tree;
 use micro_ir::Flow;
-use range_flow::{discovered_cover, flow_is_given, flow_of, flows_agree};
-use regions::{following_agrees, plain, straight};
+use range_flow::flow_of;
+use regions::{plain, straight};
 use std::alloc::{AllocError, Global};
 
 // The tree of a flow in a form.
@@ -32,19 +33,31 @@ fn tree_of(alloc: Global, f: &Flow, form: Form) -> Result<Tree, AllocError>
     }
 }
 
+// The function of what is discovered of a range.
+fn function_of(
+    alloc: Global,
+    m: &Image,
+    r: &Range,
+    found: &Found,
+    form: Form,
+) -> Result<CFun, AllocError>
+    requires no_place { HasNoPlace m.now r.now }
+    requires discovered { IsDiscovered m.now r.now found.now.places.items found.now.graph }
+    ensures { IfOk result (IsFunctionOf form m.now r.now) }
+{
+    let flow = flow_of(alloc, m, r, found)?;
+    let tree = tree_of(alloc, &flow, form)?;
+    emit(alloc, &tree, r.entry)
+}
+
 /// The function of a range of an image, in a form.
 pub fn decompile_fun(alloc: Global, m: &Image, r: &Range, form: Form) -> Result<CFun, FlowFault>
     ensures ok { IfOk result (IsFunctionOf form m.now r.now) }
     ensures err { IfErr result (HasNoText m.now r.now) }
 {
     let found = discover(alloc, m, r)?;
-    discovered_cover();
-    let flow = flow_of(alloc, m, r, &found)?;
-    flow_is_given();
-    let tree = tree_of(alloc, &flow, form)?;
-    flows_agree();
-    following_agrees();
-    Ok(emit(alloc, &tree, r.entry)?)
+    let f = function_of(alloc, m, r, &found, form)?;
+    Ok(f)
 }
 
 /// The text of that function.
@@ -52,7 +65,8 @@ pub fn decompile_one(alloc: Global, m: &Image, r: &Range, form: Form) -> Result<
     ensures ok { IfOk result (λ text. IsDecompiled form m.now r.now text.items) }
     ensures err { IfErr result (HasNoText m.now r.now) }
 {
-    let f = decompile_fun(alloc, m, r, form)?;
     canonical_stands();
-    Ok(print(alloc, &f)?)
+    let f = decompile_fun(alloc, m, r, form)?;
+    let text = print(alloc, &f)?;
+    Ok(text)
 }

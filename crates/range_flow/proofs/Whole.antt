@@ -21,8 +21,8 @@ use Rattle.flow_graph.specs.Place.{first_unfrozen, unless_frozen, or_last, unbac
 use Rattle.flow_graph.specs.Discovery.{IsDiscovered}
 use Rattle.flow_graph.proofs.Walked.{reached_bounds}
 use Rattle.flow_graph.proofs.Reading.{inside_at, code_at}
-use Rattle.range_flow.specs.Lifting.{CanBeLifted}
 use Rattle.lift.specs.Given.{leaves_bare}
+use Rattle.range_flow.specs.Lifting.{CanBeLifted}
 use Rattle.range_flow.proofs.FoundPlaces.{discovered_cover}
 use Rattle.range_flow.proofs.RangePlan.{all_by}
 

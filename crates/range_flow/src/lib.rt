@@ -13,6 +13,8 @@ mod outside;
 mod piece;
 mod places;
 mod successors;
+#[cfg(test)]
+mod tests;
 
 pub use discovered::flow_of;
 pub use laws::{discovered_cover, flow_counts, flow_is_given, flows_agree, planned_flows_agree};

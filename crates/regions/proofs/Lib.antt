@@ -1,4 +1,4 @@
-mod Agreed
+pub mod Agreed
 pub mod Core
 pub mod Entries
 pub mod Tracks

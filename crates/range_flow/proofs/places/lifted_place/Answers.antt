@@ -4,8 +4,8 @@ use Rattle.std.proofs.lemmas.Result.{IfOk-weaker}
 use Rattle.x86_decode.specs.Decodes.{NoneBegins}
 use Rattle.x86_inst.specs.declared.Inst.{Inst}
 use Rattle.x86_inst.specs.Spelling.{Spells}
-use Rattle.range_flow.specs.Lifting.{IsLiftedIn}
 use Rattle.lift.specs.Given.{leaves_bare}
+use Rattle.range_flow.specs.Lifting.{IsLiftedIn}
 use Rattle.range_flow.proofs.Placing.{lifted_in}
 use Rattle.range_flow.proofs.places.lifted_place.Goals as goal
 
