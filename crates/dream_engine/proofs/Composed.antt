@@ -27,7 +27,7 @@ use Rattle.dream_engine.specs.Tree.{IsTreeIn}
 
 -- what the tree's function agrees with
 agrees_by : (m : List Segment) (r : Range) (places : List ℕ) (flow : Flow) (t : Tree) (f : CFun) → AreCovering m r places → IsFlowOf m r places flow → Follows flow t → IsTreeOf t f
-      → f.address ≡ r.entry → Agrees m r f
+    → f.address ≡ r.entry → Agrees m r f
 agrees_by m r places flow t f covering is follows of e = record {
   address = e;
   runs = λ decoded d start s answers a. subst (λ run. Agreeing (machine_run m r decoded start answers) run) (sym (fun_ext (λ k. of.runs start answers k)))

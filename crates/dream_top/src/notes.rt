@@ -8,9 +8,9 @@ ghost use Rattle.dream_top.specs.Notes.{kind_name as name_of_kind, cause_name as
 use crate::status::Status;
 use crate::writing::{put_all, put_pieces};
 use c_print::eight_digits;
-use flow_graph::{Cause, Place};
 use dream_outside::Sink;
 use elf_image::ElfFault;
+use flow_graph::{Cause, Place};
 use itoa::Buffer;
 
 // The commands. Those that don't exist yet are named too, and answered by this note.

@@ -5,8 +5,8 @@ ghost use Rattle.dream_top.specs.Loading.{load_status, image_status, flow_status
 
 use crate::load::LoadFault;
 use crate::status::Status;
-use flow_graph::FlowFault;
 use elf_image::ImageFault;
+use flow_graph::FlowFault;
 
 impl From<LoadFault> for Status {
     ghost from_gives = { λ fault status. status ≡ load_status fault };

@@ -3,8 +3,8 @@
 ghost use Rattle.std.specs.Prelude.{◌≡◌};
 ghost use Rattle.dream_top.specs.Statuses.{code_of};
 
-use flow_graph::Place;
 use elf_image::ElfFault;
+use flow_graph::Place;
 
 /// How the program ends.
 #[derive(Clone, Copy, PartialEq, Eq)]

@@ -20,12 +20,7 @@ fn has_rounds(i: &Inst) -> bool
 }
 
 /// A block of an instruction, with the test of ECX before it where the instruction has rounds.
-pub fn with_test(
-    alloc: Global,
-    i: &Inst,
-    at: u32,
-    b: Block,
-) -> Result<Vec<Block>, AllocError>
+pub fn with_test(alloc: Global, i: &Inst, at: u32, b: Block) -> Result<Vec<Block>, AllocError>
     ensures { IfOk result (λ blocks. blocks.items ≡ with_test_of i.now at b) }
 {
     if has_rounds(i) {
