@@ -1,0 +1,1 @@
+//! Worked starts and lines.
