@@ -10,6 +10,14 @@ below_next i v p d h le k = let e : 16 ^ suc i ≡ 16 ^ i * 16 = pow-suc _ _ in 
 pub more_digits : (base i v d : ℕ) → base ≤ 16 → v < 16 ^ i → d < base → base * v + d < 16 ^ suc i
 more_digits base i v d small h k = below_next i v (base * v) d h (mul-le-mul_right v small) (omega (arith, small, k))
 
+-- after fewer than ten digits
+pub product_fits : (base i v : ℕ) → base ≤ 16 → i < 10 → v < 16 ^ i → base * v < 2 ^ 64
+product_fits base i v small below h =
+    let le : suc i ≤ 10 = omega arith in
+    let e : 16 ^ suc i ≤ 16 ^ 10 = pow-le-pow_right (omega arith) le in
+    let m : base * v + 0 < 16 ^ suc i = below_next i v (base * v) 0 h (mul-le-mul_right v small) (omega arith) in
+    omega (arith, e, m)
+
 -- a digit after fewer than ten
 pub digit_fits : (base i v d : ℕ) → base ≤ 16 → i < 10 → v < 16 ^ i → d < base → base * v + d < 2 ^ 64
 digit_fits base i v d small below h k =

@@ -35,19 +35,17 @@ value_small (Some n) v e = within_small n v e
 
 -- ---- registers
 
-is_register : Option StartWord → Bool
+abbrev is_register : Option StartWord → Bool
 is_register None = false
 is_register (Some (Register n v)) = true
 is_register (Some (Argument v)) = false
 
-register_value : Option StartWord → ℕ
+abbrev register_value : Option StartWord → ℕ
 register_value None = 0
 register_value (Some (Register n v)) = v
 register_value (Some (Argument v)) = 0
 
 said_value : (a b c : Option ℕ) (n v : ℕ) → said a b c ≡ Some (Register n v) → b ≡ Some v
-unfolding is_register
-unfolding register_value
 said_value (Some x) b c n v e = absurd (true≢false (sym (ap is_register e)))
 said_value None None c n v e = absurd (true≢false (sym (ap is_register e)))
 said_value None (Some x) None n v e = absurd (true≢false (sym (ap is_register e)))

@@ -1,5 +1,5 @@
 -- The start that words of the command line give.
-use Rattle.std.specs.Prelude.{◌≡◌, ℕ, ◌×◌, ◌+◌, ◌/◌, ◌%◌, ◌^◌, List, [], ◌∷◌, Some, is_some, unwrap_or, if◌then◌else◌}
+use Rattle.std.specs.Prelude.{◌≡◌, ℕ, ◌+◌, ◌/◌, ◌%◌, ◌^◌, List, [], ◌∷◌, Some, is_some, unwrap_or, if◌then◌else◌}
 use Rattle.elf_image.specs.declared.image.Segment.{Segment}
 use Rattle.elf_image.specs.Image.{frozen_byte, backed_byte}
 use Rattle.dream_words.specs.declared.machine.Regs.{Regs}
@@ -44,12 +44,15 @@ with_arguments m mem a (v ∷ vs) = with_arguments m (with_argument m mem ((a + 
 
 -- ---- starts
 
--- The start: the named registers are set in their order, and then the arguments are stored above ESP. All flags and
--- both bases are 0.
+-- all flags and both bases are 0
+abbrev pub start_with : Regs → Mem → Start
+start_with regs mem = record { regs = regs; flags = clear_flags; fs = 0; gs = 0; mem = mem }
+
+-- The start: the named registers are set in their order, and then the arguments are stored above ESP.
 abbrev pub start_of : List Segment → Given → Mem → Start
 start_of m given before =
     let regs = with_registers first_regs given.registers in
-    record { regs = regs; flags = clear_flags; fs = 0; gs = 0; mem = with_arguments m before regs.esp given.arguments }
+    start_with regs (with_arguments m before regs.esp given.arguments)
 
 -- the memory has each byte of the image, those that are frozen among them, and 0 elsewhere
 pub record HasImage (m : List Segment) (mem : Mem) : Type 0 where
