@@ -21,11 +21,7 @@ fn digit(byte: u8, base: u8) -> Option<u8>
     ensures small { IfSome result (λ digit. digit < base) }
 {
     let digit = hex_digit(byte)?;
-    if digit < base {
-        Some(digit)
-    } else {
-        None
-    }
+    if digit < base { Some(digit) } else { None }
 }
 
 // The value of digits in a base, of which there is one at least, and so many at most.

@@ -8,5 +8,8 @@ overflow_mul-value c =
 
 pub overflow_add-value : goal.overflow_add-value
 overflow_add-value c =
-    omega (arith, digit_fits c.from.result c.loop-byte.byte-index c.loop-byte.value c.from-in-loop-byte.result (omega (arith, c.from.ensures, c.requires.base)) (omega arith) c.loop-byte.invariant.small
-    (omega (arith, c.from.ensures, c.from-in-loop-byte.ensures, c.in_ok-digit.ensures.small)))
+    omega (
+      arith,
+      digit_fits c.from.result c.loop-byte.byte-index c.loop-byte.value c.from-in-loop-byte.result (omega (arith, c.from.ensures, c.requires.base)) (omega arith) c.loop-byte.invariant.small
+          (omega (arith, c.from.ensures, c.from-in-loop-byte.ensures, c.in_ok-digit.ensures.small)),
+    )
