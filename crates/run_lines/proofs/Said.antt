@@ -10,12 +10,15 @@ use Rattle.dream_words.specs.declared.machine.Regs.{Regs}
 use Rattle.dream_words.specs.Registers.{with_reg}
 use Rattle.dream_words.specs.Memory.{Mem}
 use Rattle.dream_words.specs.Ranges.{AreWords, AreBytes}
+use Rattle.dream_words.specs.declared.outcome.Start.{Start}
 use Rattle.machine.specs.Run.{IsStart}
 use Rattle.run_lines.specs.declared.words.StartWord.{StartWord}
 use Rattle.run_lines.specs.declared.words.StartWord.TheVariants.{Register, Argument}
 use Rattle.run_lines.specs.Numbers.{within, long_of, value_of}
 use Rattle.run_lines.specs.StartWords.{register_of, said, start_word_of, register_in, registers_in, given_by}
-use Rattle.run_lines.specs.Starts.{first_regs, with_registers, start_of, HasImage}
+use Rattle.run_lines.specs.Starts.{first_regs, with_registers, start_of, HasImage, IsStartOf}
+use Rattle.run_lines.specs.Laws.{HoldsBytes}
+use Rattle.run_lines.proofs.Loaded.{image_bytes}
 use Rattle.run_lines.proofs.Stored.{arguments_bytes, arguments_keep}
 
 -- ---- values
@@ -97,9 +100,9 @@ first_words = record {
 
 -- ---- starts
 
-pub starts_start : (m : List Segment) (words : List (List ℕ)) (before : Mem) → AreBytes before → HasImage m before
+start_is : (m : List Segment) (words : List (List ℕ)) (before : Mem) → AreBytes before → HasImage m before
     → IsStart m (start_of m (given_by words) before)
-starts_start m words before bytes image =
+start_is m words before bytes image =
     let given = given_by words in
     let regs = with_registers first_regs given.registers in
     record {
@@ -109,3 +112,7 @@ starts_start m words before bytes image =
       bytes = arguments_bytes m before regs.esp given.arguments bytes;
       frozen_bytes = λ a b e. arguments_keep m a b e before regs.esp given.arguments ∙ image.frozen a b e;
     }
+
+pub starts_start : (m : List Segment) (words : List (List ℕ)) (s : Start) → HoldsBytes m → IsStartOf m (given_by words) s → IsStart m s
+starts_start m words s h of =
+    subst (IsStart m) (sym of.is) (start_is m words of.before (image_bytes m of.before h of.image) of.image)

@@ -11,7 +11,7 @@ mod starts;
 mod tests;
 mod words;
 
-pub use laws::starts_are_starts;
+pub use laws::{files_hold_bytes, starts_are_starts};
 pub use lines::line;
 pub use numbers::{count, value};
 pub use starts::start;
