@@ -6,11 +6,13 @@ use Rattle.dream_outside.specs.Causes.{Store, Rose, IsUnheld}
 use Rattle.elf_image.specs.declared.image.Segment.{Segment}
 use Rattle.elf_image.specs.Image.{image_of}
 use Rattle.flow_graph.specs.Place.{NamedPlace}
-use Rattle.dream_engine.specs.declared.form.Form.{Form}
+use Rattle.elf_image.specs.declared.range.Range.{Range}
 use Rattle.dream_engine.specs.Agreement.{IsDecompiled}
 use Rattle.dream_top.specs.declared.status.Status.{Status}
 use Rattle.dream_top.specs.declared.status.Status.TheVariants.{Done, Usage, ReadFault, WriteFault, NoMemory, NotElf, NoFunction, Outside, FileTooLarge, NotProfile}
-use Rattle.dream_top.specs.CommandLine.{Target, Command, Decompile, Prelude}
+use Rattle.dream_top.specs.CommandLine.{Target, Command, Decompile, Run, Prelude}
+use Rattle.dream_top.specs.Runs.{IsRunText}
+use Rattle.run_lines.specs.StartWords.{given_by}
 use Rattle.dream_top.specs.Header.{header_text}
 
 -- the most bytes that a file may have
@@ -84,9 +86,13 @@ pub record Loads (i : Reading) (path : List ℕ) (P : List ℕ → Type 0) : Typ
 abbrev pub LoadsImage : Reading → List ℕ → (List Segment → Type 0) → Type 0
 LoadsImage i path P = (m : List Segment) × Loads i path (λ bytes. image_of bytes ≡ Ok m) × P m
 
--- the text is that of a function in the form, which means what the range of the file does
-abbrev pub Decompiles : Form → Reading → Target → List ℕ → Type 0
-Decompiles form i f text = LoadsImage i f.path (λ m. IsDecompiled form m f.range text)
+-- what a text is of a range of an image: that of a function in a form, or the two lines of its runs
+abbrev pub Made : Type 1
+Made = List Segment → Range → List ℕ → Type 0
+
+-- the text is what is to be made of the range of the file
+abbrev pub Makes : Made → Reading → Target → List ℕ → Type 0
+Makes P i f text = LoadsImage i f.path (λ m. P m f.range text)
 
 -- why a function is refused before anything is written
 abbrev pub Refuses : Status → Reading → Target → Type 0
@@ -103,12 +109,12 @@ Refuses (NotProfile at) i f = ⊥
 
 -- ---- the answers
 
--- What a status says where a function is asked for. The output grows by the whole text at Done, by a front of it at
--- WriteFault, and not at all otherwise.
-abbrev pub AnswersDecompile : Form → Status → Reading → Writing → Target → Type 0
-AnswersDecompile form Done i o f = (text : List ℕ) × Decompiles form i f text × Appends o.taken o.taken_now text
-AnswersDecompile form WriteFault i o f = (text : List ℕ) × Decompiles form i f text × StopsIn o text
-AnswersDecompile form s i o f = Refuses s i f × Keeps o.taken o.taken_now
+-- What a status says where something is to be made of a function. The output grows by the whole text at Done, by a front of it
+-- at WriteFault, and not at all otherwise.
+abbrev pub AnswersFunction : Made → Status → Reading → Writing → Target → Type 0
+AnswersFunction P Done i o f = (text : List ℕ) × Makes P i f text × Appends o.taken o.taken_now text
+AnswersFunction P WriteFault i o f = (text : List ℕ) × Makes P i f text × StopsIn o text
+AnswersFunction P s i o f = Refuses s i f × Keeps o.taken o.taken_now
 
 -- What a status says of a text that is known before: the output grows by the whole of it at Done and by a front of it at
 -- WriteFault. No other status comes.
@@ -126,5 +132,6 @@ pub record AnswersPrelude (s : Status) (i : Reading) (o : Writing) : Type 0 wher
 -- What a status says. Words that are no command are answered by Usage, and no others are.
 abbrev pub Answers : Status → Reading → Writing → Option Command → Type 0
 Answers s i o None = (s ≡ Usage) × Keeps o.taken o.taken_now
-Answers s i o (Some (Decompile form f)) = AnswersDecompile form s i o f
+Answers s i o (Some (Decompile form f)) = AnswersFunction (IsDecompiled form) s i o f
+Answers s i o (Some (Run f n words)) = AnswersFunction (IsRunText n (given_by words)) s i o f
 Answers s i o (Some Prelude) = AnswersPrelude s i o

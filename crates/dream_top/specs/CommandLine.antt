@@ -1,5 +1,5 @@
 -- Which lists of words are which command. The words are those after the program's name.
-use Rattle.std.specs.Prelude.{ℕ, ◌+◌, ◌-◌, ◌*◌, ◌&&◌, ◌==◌, nat_le, nat_eq, Bool, false, List, [], ◌∷◌, length, drop, Option, Some, None, if◌then◌else◌, codes}
+use Rattle.std.specs.Prelude.{ℕ, ◌+◌, ◌-◌, ◌*◌, ◌&&◌, ◌==◌, nat_le, nat_eq, Bool, false, List, [], ◌∷◌, length, drop, Option, Some, None, if◌then◌else◌, codes, map, string_bytes}
 use Rattle.std.specs.List.{starts_with, before_first, after_first}
 use Rattle.std.specs.Option.{option_and_then}
 use Rattle.std.specs.Str.{bytes_eq}
@@ -7,6 +7,8 @@ use Rattle.elf_image.specs.declared.range.Range.{Range}
 use Rattle.elf_image.specs.Range.{range}
 use Rattle.dream_engine.specs.declared.form.Form.{Form}
 use Rattle.dream_engine.specs.declared.form.Form.TheVariants.{Structured, Plain}
+use Rattle.run_lines.specs.Numbers.{count_of}
+use Rattle.run_lines.specs.StartWords.{are_start_words}
 use Rattle.dream_top.specs.declared.words.Command as words
 use Rattle.dream_top.specs.declared.words.Command.TheVariants as variant
 
@@ -48,14 +50,23 @@ pub record Target : Type 0 where
 abbrev pub target : List ℕ → Range → Target
 target path range = record { path = path; range = range }
 
--- what the words ask for: the C of a function in a form, or the header that each text includes
+-- what the words ask for: the C of a function in a form, its runs of so many steps from a start that words give, or the
+-- header that each text includes
 pub data Command : Type 0 where
   Decompile : Form → Target → Command
+  Run : Target → ℕ → List (List ℕ) → Command
   Prelude : Command
+
+-- the function that is asked for, if one is
+abbrev pub function_of : Command → Option Target
+function_of (Decompile form f) = Some f
+function_of (Run f n words) = Some f
+function_of Prelude = None
 
 -- what the program's command asks for
 abbrev pub asked_by : words.Command → Command
 asked_by (variant.Decompile form f) = Decompile form (target f.path.now f.range)
+asked_by (variant.Run f n words) = Run (target f.path.now f.range) n (map string_bytes words.now)
 asked_by variant.Prelude = Prelude
 
 -- `decompile` asks for the structured form, and `plain` for the plain one.
@@ -79,6 +90,23 @@ abbrev pub function_asked : List (List ℕ) → Option Command
 function_asked (name ∷ path ∷ func ∷ []) = asks (form_named name) (function_at path (address_form func))
 function_asked _ = None
 
+-- a function, and a count of steps
+abbrev pub asks_run : Option Target → Option ℕ → List (List ℕ) → Option Command
+asks_run None n words = None
+asks_run (Some f) None words = None
+asks_run (Some f) (Some n) words = Some (Run f n words)
+
+-- `run PATH FUNC N WORD ..`: N is 0 to 1,000,000, and each of at most 64 WORDs says something of the start.
+abbrev pub run_asked : List (List ℕ) → Option Command
+run_asked (name ∷ path ∷ func ∷ n ∷ words) =
+    if bytes_eq name (codes "run") && are_start_words words then asks_run (function_at path (address_form func)) (count_of 0 1000000 n) words else None
+run_asked _ = None
+
+-- a command, or else another
+abbrev pub or_else : Option Command → Option Command → Option Command
+or_else None c = c
+or_else (Some c) d = Some c
+
 -- `prelude`
 abbrev pub is_prelude : List (List ℕ) → Bool
 is_prelude (name ∷ []) = bytes_eq name (codes "prelude")
@@ -86,4 +114,4 @@ is_prelude _ = false
 
 -- One of these; every other list of words is no command.
 abbrev pub command_of : List (List ℕ) → Option Command
-command_of words = if is_prelude words then Some Prelude else function_asked words
+command_of words = if is_prelude words then Some Prelude else or_else (function_asked words) (run_asked words)

@@ -7,10 +7,9 @@ use Rattle.elf_image.specs.declared.image.ElfFault.{ElfFault}
 use Rattle.elf_image.specs.Image.{image_of}
 use Rattle.flow_graph.specs.declared.place.Place.{Place}
 use Rattle.flow_graph.specs.Place.{NamedPlace, HasNoPlace}
-use Rattle.dream_engine.specs.declared.form.Form.{Form}
 use Rattle.dream_top.specs.declared.status.Status.{Status}
 use Rattle.dream_top.specs.declared.status.Status.TheVariants.{Done, Usage, ReadFault, WriteFault, NoMemory, NotElf, Outside, FileTooLarge}
-use Rattle.dream_top.specs.CommandLine.{Target, Decompile, command_of}
+use Rattle.dream_top.specs.CommandLine.{Target, Command, function_of, command_of}
 use Rattle.dream_top.specs.Answers.{limit, Reading, Writing, StopsIn, Answers}
 use Rattle.dream_top.specs.Header.{header_text}
 
@@ -20,8 +19,9 @@ pub record HasNoFault (i : Reading) (o : Writing) : Type 0 where
   pub out : Rose o.faults o.faults_now → ⊥
 
 -- The words ask for a function, its path holds these bytes, within the limit, and they have this image.
-pub record IsAccepted (words : List (List ℕ)) (i : Reading) (form : Form) (f : Target) (bytes : List ℕ) (m : List Segment) : Type 0 where
-  pub command : command_of words ≡ Some (Decompile form f)
+pub record IsAccepted (words : List (List ℕ)) (i : Reading) (c : Command) (f : Target) (bytes : List ℕ) (m : List Segment) : Type 0 where
+  pub command : command_of words ≡ Some c
+  pub function : function_of c ≡ Some f
   pub held : HoldsAt i.held f.path bytes
   pub small : length bytes ≤ limit
   pub image : image_of bytes ≡ Ok m
@@ -30,27 +30,27 @@ pub record IsAccepted (words : List (List ℕ)) (i : Reading) (form : Form) (f :
 -- of faults rises or memory runs out.
 abbrev pub NoRefusalWithoutCause : Type 0
 NoRefusalWithoutCause =
-    (words : List (List ℕ)) (i : Reading) (o : Writing) (form : Form) (f : Target) (bytes : List ℕ) (m : List Segment) (s : Status)
-    → IsAccepted words i form f bytes m → HasNoPlace m f.range → HasNoFault i o → Answers s i o (command_of words) → (s ≡ Done) ⊎ (s ≡ NoMemory)
+    (words : List (List ℕ)) (i : Reading) (o : Writing) (c : Command) (f : Target) (bytes : List ℕ) (m : List Segment) (s : Status)
+    → IsAccepted words i c f bytes m → HasNoPlace m f.range → HasNoFault i o → Answers s i o (command_of words) → (s ≡ Done) ⊎ (s ≡ NoMemory)
 
 -- Each cause has its answer, unless the count of faults of the files rises or memory runs out.
 pub record EachCauseHasItsAnswer : Type 0 where
   -- words that are no command
   pub usage : (i : Reading) (o : Writing) (s : Status) → Answers s i o None → s ≡ Usage
   -- a path that holds nothing
-  pub unheld : (i : Reading) (o : Writing) (form : Form) (f : Target) (s : Status) → IsUnheld i.held f.path → Answers s i o (Some (Decompile form f)) → (s ≡ ReadFault) ⊎ (s ≡ NoMemory)
+  pub unheld : (i : Reading) (o : Writing) (c : Command) (f : Target) (s : Status) → IsUnheld i.held f.path → function_of c ≡ Some f → Answers s i o (Some c) → (s ≡ ReadFault) ⊎ (s ≡ NoMemory)
   -- more bytes than the limit that were taken, where the count of bytes was no more than that before the call
-  pub too_many : (i : Reading) (o : Writing) (form : Form) (f : Target) (s : Status) → i.got ≤ limit → limit < i.got_now → Answers s i o (Some (Decompile form f))
+  pub too_many : (i : Reading) (o : Writing) (c : Command) (f : Target) (s : Status) → i.got ≤ limit → limit < i.got_now → function_of c ≡ Some f → Answers s i o (Some c)
       → (s ≡ FileTooLarge) ⊎ (s ≡ NoMemory)
   -- a file that is longer than the limit
-  pub too_large : (i : Reading) (o : Writing) (form : Form) (f : Target) (bytes : List ℕ) (s : Status) → HoldsAt i.held f.path bytes → limit < length bytes
-      → (Rose i.faults i.faults_now → ⊥) → Answers s i o (Some (Decompile form f)) → (s ≡ FileTooLarge) ⊎ (s ≡ NoMemory)
+  pub too_large : (i : Reading) (o : Writing) (c : Command) (f : Target) (bytes : List ℕ) (s : Status) → HoldsAt i.held f.path bytes → limit < length bytes
+      → (Rose i.faults i.faults_now → ⊥) → function_of c ≡ Some f → Answers s i o (Some c) → (s ≡ FileTooLarge) ⊎ (s ≡ NoMemory)
   -- a file that breaks a rule
-  pub broken : (i : Reading) (o : Writing) (form : Form) (f : Target) (bytes : List ℕ) (fault : ElfFault) (s : Status) → HoldsAt i.held f.path bytes
-      → length bytes ≤ limit → image_of bytes ≡ Err fault → (Rose i.faults i.faults_now → ⊥) → Answers s i o (Some (Decompile form f)) → (s ≡ NotElf fault) ⊎ (s ≡ NoMemory)
+  pub broken : (i : Reading) (o : Writing) (c : Command) (f : Target) (bytes : List ℕ) (fault : ElfFault) (s : Status) → HoldsAt i.held f.path bytes
+      → length bytes ≤ limit → image_of bytes ≡ Err fault → (Rose i.faults i.faults_now → ⊥) → function_of c ≡ Some f → Answers s i o (Some c) → (s ≡ NotElf fault) ⊎ (s ≡ NoMemory)
   -- a range with a place outside the profile, which is named
-  pub outside : (words : List (List ℕ)) (i : Reading) (o : Writing) (form : Form) (f : Target) (bytes : List ℕ) (m : List Segment) (p : Place) (s : Status)
-      → IsAccepted words i form f bytes m → NamedPlace m f.range p → (Rose i.faults i.faults_now → ⊥) → Answers s i o (command_of words)
+  pub outside : (words : List (List ℕ)) (i : Reading) (o : Writing) (c : Command) (f : Target) (bytes : List ℕ) (m : List Segment) (p : Place) (s : Status)
+      → IsAccepted words i c f bytes m → NamedPlace m f.range p → (Rose i.faults i.faults_now → ⊥) → Answers s i o (command_of words)
       → (s ≡ Outside p) ⊎ (s ≡ NoMemory)
   -- the header that is asked for: all of it, or a front of it where the count of faults of the output rises
   pub prelude : (i : Reading) (o : Writing) (s : Status) → Answers s i o (command_of (codes "prelude" ∷ []))

@@ -5,3 +5,4 @@ pub mod Header
 pub mod Answers
 pub mod Loading
 pub mod Laws
+pub mod Runs

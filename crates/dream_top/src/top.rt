@@ -3,11 +3,15 @@
 ghost use Rattle.std.specs.Prelude.{◌≡◌, map, string_bytes, IfOk, IfErr};
 ghost use Rattle.dream_top.specs.CommandLine.{target, command_of};
 ghost use Rattle.dream_top.specs.Notes.{note_of};
-ghost use Rattle.dream_top.specs.Answers.{reading_of, writing_of, Decompiles, Refuses, AnswersDecompile, Writes, Answers, Tells};
+ghost use Rattle.dream_top.specs.Answers.{reading_of, writing_of, Makes, Refuses, AnswersFunction, Writes, Answers, Tells};
+ghost use Rattle.dream_engine.specs.Agreement.{IsDecompiled};
 ghost use Rattle.dream_top.specs.Header.{header_text};
+ghost use Rattle.dream_top.specs.Runs.{IsRunText};
+ghost use Rattle.run_lines.specs.StartWords.{given_by};
 
 use crate::header::HEADER;
 use crate::load::load;
+use crate::runs::run_text;
 use crate::notes::tell;
 use crate::status::Status;
 use crate::words::{Command, Target, command_in};
@@ -25,7 +29,7 @@ fn decompile<F: Files>(
     path: &str,
     range: Range,
 ) -> Result<Vec<u8>, Status>
-    ensures ok { IfOk result (λ text. Decompiles form
+    ensures ok { IfOk result (λ text. Makes (IsDecompiled form)
         (reading_of (F.held files.old) (F.faults files.old) (F.faults files.new) (F.got files.old) (F.got files.new))
         (target path.now range) text.items) }
     ensures err { IfErr result (λ s. Refuses s
@@ -46,12 +50,57 @@ fn write_function<F: Files, K: Sink>(
     range: Range,
     out: &mut K,
 ) -> Status
-    ensures { AnswersDecompile form result
+    ensures { AnswersFunction (IsDecompiled form) result
         (reading_of (F.held files.old) (F.faults files.old) (F.faults files.new) (F.got files.old) (F.got files.new))
         (writing_of (K.taken out.old) (K.taken out.new) (K.faults out.old) (K.faults out.new))
         (target path.now range) }
 {
     match decompile(alloc, files, form, path, range) {
+        Err(status) => status,
+        Ok(text) => match put_all(out, &text) {
+            Ok(()) => Status::Done,
+            Err(_) => Status::WriteFault,
+        },
+    }
+}
+
+// The two lines of the function at a range of the file at a path.
+fn run<F: Files>(
+    alloc: Global,
+    files: &mut F,
+    path: &str,
+    range: Range,
+    steps: u32,
+    words: &[String],
+) -> Result<Vec<u8>, Status>
+    ensures ok { IfOk result (λ text. Makes (IsRunText steps (given_by (map string_bytes words.now)))
+        (reading_of (F.held files.old) (F.faults files.old) (F.faults files.new) (F.got files.old) (F.got files.new))
+        (target path.now range) text.items) }
+    ensures err { IfErr result (λ s. Refuses s
+        (reading_of (F.held files.old) (F.faults files.old) (F.faults files.new) (F.got files.old) (F.got files.new))
+        (target path.now range)) }
+{
+    let bytes = load(alloc, files, path)?;
+    let image = Image::read(alloc, &bytes)?;
+    Ok(run_text(alloc, &image, &range, steps, words)?)
+}
+
+// Writes these lines.
+fn write_run<F: Files, K: Sink>(
+    alloc: Global,
+    files: &mut F,
+    path: &str,
+    range: Range,
+    steps: u32,
+    words: &[String],
+    out: &mut K,
+) -> Status
+    ensures { AnswersFunction (IsRunText steps (given_by (map string_bytes words.now))) result
+        (reading_of (F.held files.old) (F.faults files.old) (F.faults files.new) (F.got files.old) (F.got files.new))
+        (writing_of (K.taken out.old) (K.taken out.new) (K.faults out.old) (K.faults out.new))
+        (target path.now range) }
+{
+    match run(alloc, files, path, range, steps, words) {
         Err(status) => status,
         Ok(text) => match put_all(out, &text) {
             Ok(()) => Status::Done,
@@ -83,6 +132,9 @@ fn work<F: Files, K: Sink>(alloc: Global, words: &[String], files: &mut F, out: 
         None => Status::Usage,
         Some(Command::Decompile(form, Target { path, range })) => {
             write_function(alloc, files, form, path, range, out)
+        }
+        Some(Command::Run(Target { path, range }, steps, words)) => {
+            write_run(alloc, files, path, range, steps, words, out)
         }
         Some(Command::Prelude) => write_header(out),
     }

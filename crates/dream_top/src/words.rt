@@ -1,10 +1,11 @@
 //! The words of the command line.
 
 ghost use Rattle.std.specs.Prelude.{◌≡◌, ◌<◌, ℕ, map, string_bytes, IfSome, MatchOption};
-ghost use Rattle.dream_top.specs.CommandLine.{hex_digit as hex_digit_of, hex_number as hex_number_of, sum_form as sum_form_of, address_form as address_form_of, form_named as form_named_of, function_at as function_at_of, function_asked as function_asked_of, target as target_is, is_prelude as asks_for_header, command_of, asked_by};
+ghost use Rattle.dream_top.specs.CommandLine.{hex_digit as hex_digit_of, hex_number as hex_number_of, sum_form as sum_form_of, address_form as address_form_of, form_named as form_named_of, function_at as function_at_of, function_asked as function_asked_of, run_asked as run_asked_of, target as target_is, is_prelude as asks_for_header, command_of, asked_by};
 
 use dream_engine::Form;
 use elf_image::Range;
+use run_lines::{are_start_words, count};
 
 /// A function: the range of the file at a path.
 #[derive(Clone, Copy)]
@@ -18,6 +19,8 @@ pub struct Target<'a> {
 pub enum Command<'a> {
     /// The C of a function, in a form.
     Decompile(Form, Target<'a>),
+    /// The runs of a function, of so many steps, from the start that words give.
+    Run(Target<'a>, u32, &'a [String]),
     /// The header that each text includes.
     Prelude,
 }
@@ -102,6 +105,20 @@ fn function_asked(words: &[String]) -> Option<Command<'_>>
     }
 }
 
+// The runs that the words ask for, if they do.
+fn run_asked(words: &[String]) -> Option<Command<'_>>
+    ensures { MatchOption result (run_asked_of (map string_bytes words.now) ≡ None) (λ c. run_asked_of (map string_bytes words.now) ≡ Some (asked_by c)) }
+{
+    match words {
+        [name, path, func, n, rest @ ..] if name.as_str() == "run" && are_start_words(rest) => {
+            let target = function_at(path.as_str(), func.as_str())?;
+            let steps = count(n.as_str(), 0, 1_000_000)?;
+            Some(Command::Run(target, steps, rest))
+        }
+        _ => None,
+    }
+}
+
 // Whether the words ask for the header.
 fn is_prelude(words: &[String]) -> bool
     ensures { result ≡ asks_for_header (map string_bytes words.now) }
@@ -118,7 +135,9 @@ pub fn command_in(words: &[String]) -> Option<Command<'_>>
 {
     if is_prelude(words) {
         Some(Command::Prelude)
+    } else if let Some(command) = function_asked(words) {
+        Some(command)
     } else {
-        function_asked(words)
+        run_asked(words)
     }
 }
