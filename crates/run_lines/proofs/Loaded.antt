@@ -1,5 +1,5 @@
 -- What a file of bytes loads are bytes.
-use Rattle.std.proofs.Common.{◌≡◌, ℕ, zero, suc, ◌-◌, ◌<◌, Bool, true, false, cond, inl, inr, List, [], ◌∷◌, ◌++◌, take, drop, get_or, Option, Some, None, Result, Ok, Err, refl, sym, ap, subst, ◌∙◌, arith, lit<}
+use Rattle.std.proofs.Common.{◌≡◌, ℕ, zero, suc, ◌-◌, ◌<◌, Bool, true, false, cond, inl, inr, List, [], ◌∷◌, ◌++◌, take, drop, get_or, Option, Some, None, Ok, refl, sym, ap, subst, arith, lit<}
 use Rattle.std.specs.Prelude.{is_some, unwrap_or}
 use Rattle.std.proofs.lemmas.Bool.{cases_Bool, true≢false}
 use Rattle.elf_image.specs.declared.image.Segment.{Segment}
@@ -7,7 +7,7 @@ use Rattle.elf_image.specs.declared.image.ElfFault.{ElfFault}
 use Rattle.elf_image.specs.Header.{entry_count, is_load, offset_of, file_size_of}
 use Rattle.elf_image.specs.Rules.{first_broken}
 use Rattle.elf_image.specs.Image.{image_of, segments_of, loaded_of, is_backed_in, backed_byte}
-use Rattle.dream_words.specs.Memory.{Mem, byte_at}
+use Rattle.dream_words.specs.Memory.{Mem}
 use Rattle.dream_words.specs.Ranges.{AreBytes}
 use Rattle.run_lines.specs.Laws.{HoldsBytes}
 use Rattle.run_lines.specs.Starts.{HasImage}
@@ -55,8 +55,8 @@ backed_small (s ∷ ss) h a b e =
 -- ---- files
 
 loaded : (bytes : List ℕ) (m : List Segment) (o : Option ElfFault) → first_broken bytes ≡ o → image_of bytes ≡ Ok m → segments_of bytes (entry_count bytes) ≡ m
-loaded bytes m None is e = cc
-loaded bytes m (Some f) is e = absurd (cc)
+loaded bytes m None is e = let is_it = rw is at e in cc
+loaded bytes m (Some f) is e = absurd (let is_not = rw is at e in cc)
 
 pub files_bytes : (bytes : List ℕ) (m : List Segment) → ((k : ℕ) → get_or bytes k 0 < 256) → image_of bytes ≡ Ok m → HoldsBytes m
 files_bytes bytes m h e =
