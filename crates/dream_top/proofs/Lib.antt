@@ -2,3 +2,4 @@ mod Hex
 mod Streams
 mod Held
 mod Causes
+mod Lines

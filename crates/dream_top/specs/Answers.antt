@@ -94,6 +94,19 @@ Made = List Segment → Range → List ℕ → Type 0
 abbrev pub Makes : Made → Reading → Target → List ℕ → Type 0
 Makes P i f text = LoadsImage i f.path (λ m. P m f.range text)
 
+-- why the image of a file can't be had
+abbrev pub IsUnread : Status → Reading → List ℕ → Type 0
+IsUnread ReadFault i path = IsReadFault i path
+IsUnread FileTooLarge i path = IsTooLarge i path
+IsUnread (NotElf fault) i path = Loads i path (λ bytes. image_of bytes ≡ Err fault)
+IsUnread NoMemory i path = Unit {0}
+IsUnread (Outside place) i path = ⊥
+IsUnread Done i path = ⊥
+IsUnread Usage i path = ⊥
+IsUnread WriteFault i path = ⊥
+IsUnread NoFunction i path = ⊥
+IsUnread (NotProfile at) i path = ⊥
+
 -- why a function is refused before anything is written
 abbrev pub Refuses : Status → Reading → Target → Type 0
 Refuses ReadFault i f = IsReadFault i f.path

@@ -1,6 +1,9 @@
 //! The two lines of `run`: the machine's, and the C's.
 
-ghost use Rattle.std.specs.Prelude.{◌≡◌, ℕ, ◌≤◌, Option, IfOk, IfErr, map, string_bytes};
+ghost use Rattle.std.specs.Prelude.{◌≡◌, ℕ, [], Option, IfOk, IfErr, map, string_bytes};
+ghost use Rattle.c_syntax.specs.Run.{c_run as c_run_of};
+ghost use Rattle.machine.specs.Run.{machine_run};
+ghost use Rattle.run_lines.specs.Lines.{line_of};
 ghost use Rattle.dream_top.specs.Runs.{IsRunText, two_lines as two_lines_of};
 ghost use Rattle.flow_graph.specs.Place.{HasNoText};
 ghost use Rattle.machine.specs.Code.{Decodes};
@@ -16,7 +19,29 @@ use flow_graph::FlowFault;
 use run_lines::{line, start};
 use std::alloc::{AllocError, Global};
 
-// The machine's run, and the C's of twice so many turns.
+// What the machine's run of so many steps tells.
+fn machine_line(
+    alloc: Global,
+    image: &Image,
+    range: &Range,
+    start: &Start,
+    steps: u64,
+) -> Result<Vec<u8>, AllocError>
+    ensures { IfOk result (λ text. (decoded : ℕ → Option (Inst × ℕ)) → Decodes image.now range.now decoded → text.items ≡ line_of (machine_run image.now range.now decoded start.now [] steps) start.now.mem) }
+{
+    let outcome = machine::run(alloc, image, range, start, &[], steps)?;
+    line(alloc, &outcome, &start.mem)
+}
+
+// What the C's run of so many turns tells.
+fn c_line(alloc: Global, f: &CFun, start: &Start, turns: u64) -> Result<Vec<u8>, AllocError>
+    ensures { IfOk result (λ text. text.items ≡ line_of (c_run_of f.now start.now [] turns) start.now.mem) }
+{
+    let outcome = run_c(alloc, f, start, &[], turns)?;
+    line(alloc, &outcome, &start.mem)
+}
+
+// Both, the C's of twice so many turns.
 fn two_lines(
     alloc: Global,
     image: &Image,
@@ -27,10 +52,9 @@ fn two_lines(
 ) -> Result<Vec<u8>, AllocError>
     ensures { IfOk result (λ text. (decoded : ℕ → Option (Inst × ℕ)) → Decodes image.now range.now decoded → text.items ≡ two_lines_of image.now range.now decoded f.now start.now steps) }
 {
-    let machine = machine::run(alloc, image, range, start, &[], u64::from(steps))?;
-    let c = run_c(alloc, f, start, &[], 2 * u64::from(steps))?;
-    let mut text = line(alloc, &machine, &start.mem)?;
-    let second = line(alloc, &c, &start.mem)?;
+    let steps = u64::from(steps);
+    let mut text = machine_line(alloc, image, range, start, steps)?;
+    let second = c_line(alloc, f, start, 2 * steps)?;
     text.extend_from_slice(&second)?;
     Ok(text)
 }

@@ -1,9 +1,10 @@
 //! The program's one call.
 
-ghost use Rattle.std.specs.Prelude.{◌≡◌, map, string_bytes, IfOk, IfErr};
+ghost use Rattle.std.specs.Prelude.{◌≡◌, Ok, map, string_bytes, IfOk, IfErr};
+ghost use Rattle.elf_image.specs.Image.{image_of};
 ghost use Rattle.dream_top.specs.CommandLine.{target, command_of};
 ghost use Rattle.dream_top.specs.Notes.{note_of};
-ghost use Rattle.dream_top.specs.Answers.{reading_of, writing_of, Makes, Refuses, AnswersFunction, Writes, Answers, Tells};
+ghost use Rattle.dream_top.specs.Answers.{reading_of, writing_of, Loads, Makes, IsUnread, Refuses, AnswersFunction, Writes, Answers, Tells};
 ghost use Rattle.dream_engine.specs.Agreement.{IsDecompiled};
 ghost use Rattle.dream_top.specs.Header.{header_text};
 ghost use Rattle.dream_top.specs.Runs.{IsRunText};
@@ -21,6 +22,19 @@ use dream_outside::{Files, Sink};
 use elf_image::{Image, Range};
 use std::alloc::Global;
 
+// The image of the file at a path.
+fn read_image<F: Files>(alloc: Global, files: &mut F, path: &str) -> Result<Image, Status>
+    ensures ok { IfOk result (λ m. Loads
+        (reading_of (F.held files.old) (F.faults files.old) (F.faults files.new) (F.got files.old) (F.got files.new))
+        path.now (λ bytes. image_of bytes ≡ Ok m)) }
+    ensures err { IfErr result (λ s. IsUnread s
+        (reading_of (F.held files.old) (F.faults files.old) (F.faults files.new) (F.got files.old) (F.got files.new))
+        path.now) }
+{
+    let bytes = load(alloc, files, path)?;
+    Ok(Image::read(alloc, &bytes)?)
+}
+
 // The text of the function at a range of the file at a path, in a form.
 fn decompile<F: Files>(
     alloc: Global,
@@ -36,8 +50,7 @@ fn decompile<F: Files>(
         (reading_of (F.held files.old) (F.faults files.old) (F.faults files.new) (F.got files.old) (F.got files.new))
         (target path.now range)) }
 {
-    let bytes = load(alloc, files, path)?;
-    let image = Image::read(alloc, &bytes)?;
+    let image = read_image(alloc, files, path)?;
     Ok(decompile_one(alloc, &image, &range, form)?)
 }
 
@@ -80,8 +93,7 @@ fn run<F: Files>(
         (reading_of (F.held files.old) (F.faults files.old) (F.faults files.new) (F.got files.old) (F.got files.new))
         (target path.now range)) }
 {
-    let bytes = load(alloc, files, path)?;
-    let image = Image::read(alloc, &bytes)?;
+    let image = read_image(alloc, files, path)?;
     Ok(run_text(alloc, &image, &range, steps, words)?)
 }
 
