@@ -4,7 +4,7 @@ use Rattle.elf_image.specs.declared.image.ElfFault.{ElfFault}
 use Rattle.elf_image.specs.declared.range.Range.{Range}
 use Rattle.elf_symbols.specs.declared.find.FindFault.{FindFault}
 use Rattle.elf_symbols.specs.declared.find.FindFault.TheVariants as find
-use Rattle.elf_symbols.specs.declared.list.Named.{Named}
+use Rattle.elf_symbols.specs.declared.named.Named.{Named}
 use Rattle.elf_symbols.specs.declared.list.ListFault.{ListFault}
 use Rattle.elf_symbols.specs.declared.list.ListFault.TheVariants as listed
 use Rattle.elf_symbols.specs.Sections.{section_count, section_type, section_link, section_bytes, broken_sections}

@@ -1,5 +1,5 @@
 -- The symbols of a symbol section and their names (System V gABI, 'Symbol Table' and 'String Table').
-use Rattle.std.specs.Prelude.{ℕ, zero, suc, ◌+◌, ◌*◌, ◌%◌, Bool, not, ◌&&◌, ◌==◌, List, [], ◌∷◌, drop, slice_index, Option, Some, None, option_map}
+use Rattle.std.specs.Prelude.{ℕ, zero, suc, ◌+◌, ◌*◌, ◌%◌, Bool, not, ◌&&◌, ◌==◌, false, bytes_eq, List, [], ◌∷◌, drop, slice_index, Option, Some, None, option_map}
 use Rattle.elf_image.specs.declared.range.Range.{Range}
 use Rattle.elf_image.specs.Header.{half_at, word_at}
 use Rattle.elf_image.specs.Range.{range}
@@ -37,3 +37,8 @@ ended (suc b ∷ bytes) = option_map (λ name. suc b ∷ name) (ended bytes)
 -- The name of symbol j begins at its place of the string table and is ended there by a zero byte.
 abbrev pub name_of : List ℕ → List ℕ → ℕ → Option (List ℕ)
 name_of table strings j = ended (drop (symbol_name table j) strings)
+
+-- there is a name, and it is this one
+abbrev pub is_name : Option (List ℕ) → List ℕ → Bool
+is_name None name = false
+is_name (Some n) name = bytes_eq n name

@@ -6,9 +6,11 @@
 mod fields;
 mod find;
 mod list;
+mod named;
 mod names;
 mod sections;
 mod symbols;
 
 pub use find::{FindFault, function_named};
-pub use list::{Functions, ListFault, Named, functions};
+pub use list::{ListFault, functions};
+pub use named::{Functions, Named};

@@ -7,21 +7,9 @@ ghost use Rattle.elf_symbols.specs.Functions.{function_at, functions_in, section
 use crate::names::name;
 use crate::sections::{broken_sections, count, section, section_link, section_type};
 use crate::symbols::{from_name, is_function, range};
-use elf_image::{Bytes, ElfFault, Range};
+use crate::named::{self, Named};
+use elf_image::ElfFault;
 use std::alloc::{AllocError, Global};
-
-/// A function: its name, without the zero byte, and its addresses.
-#[derive(Drop)]
-pub struct Named {
-    pub name: Bytes,
-    pub range: Range,
-}
-
-/// The functions of a file.
-#[derive(Drop)]
-pub struct Functions {
-    pub list: Vec<Named>,
-}
 
 /// Why there is no list of functions.
 #[derive(Clone, Copy, Debug, PartialEq, Eq)]
@@ -108,14 +96,14 @@ fn all_functions(alloc: Global, bytes: &[u8]) -> Result<Vec<Named>, AllocError>
 }
 
 /// Every function that is defined and has a name, in the order in which `function_named` looks for one.
-pub fn functions(alloc: Global, bytes: &[u8]) -> Result<Functions, ListFault>
+pub fn functions(alloc: Global, bytes: &[u8]) -> Result<named::Functions, ListFault>
     ensures { MatchResult result (λ f. functions_unless bytes.now ≡ Ok f.list.items) (ListFails (functions_unless bytes.now)) }
 {
     if let Some(fault) = broken_sections(bytes) {
         return Err(ListFault::Elf(fault));
     }
     match all_functions(alloc, bytes) {
-        Ok(list) => Ok(Functions { list }),
+        Ok(list) => Ok(named::Functions { list }),
         Err(_) => Err(ListFault::Memory),
     }
 }

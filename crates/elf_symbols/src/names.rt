@@ -1,8 +1,7 @@
 //! Names in a string table, each ended by a zero byte.
 
 ghost use Rattle.std.specs.Prelude.{◌≡◌, IfOk};
-ghost use Rattle.elf_symbols.specs.Symbols.{ended};
-ghost use Rattle.elf_symbols.proofs.Names.{is_name};
+ghost use Rattle.elf_symbols.specs.Symbols.{ended, is_name};
 
 use elf_image::Bytes;
 use std::alloc::{AllocError, Global};
