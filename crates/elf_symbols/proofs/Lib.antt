@@ -1,3 +1,4 @@
-mod Names
+mod EndedNames
 mod Rows
 mod SectionFacts
+mod FoundRanges

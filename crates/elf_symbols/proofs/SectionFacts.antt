@@ -5,7 +5,7 @@ use Rattle.std.proofs.lemmas.Bool.{cases_lt, and_cases, or_parts, both_ways, or_
 use Rattle.elf_image.specs.declared.image.ElfFault.{ElfFault}
 use Rattle.elf_image.specs.First.{first_below}
 use Rattle.elf_image.specs.Rules.{first_rule}
-use Rattle.elf_symbols.specs.Sections.{section_table, section_count, section_type, section_link, holds_symbols, passes_end, is_section_outside, section_fault, section_rules, broken_sections}
+use Rattle.elf_symbols.specs.Sections.{section_table, section_count, section_place, section_type, section_link, holds_symbols, passes_end, is_section_outside, section_fault, section_rules, broken_sections}
 
 below_or_last : (k m : ℕ) → k < suc m → (k < m) ⊎ (k ≡ m)
 below_or_last k m h = elim (cases_lt k m) [ inl lt ↦ inl lt | inr le ↦ inr (omega arith) ]
@@ -90,3 +90,7 @@ are_inside bytes k type h lt t e =
           let others = or_parts linked strings parts.1 in
           record { symbols = parts.0; link = leb-false (section_count bytes) (section_link bytes k) others.0; strings = others.1 }
     ]
+
+-- The header of a section is inside.
+pub place_inside : (bytes : List ℕ) (k : ℕ) → broken_sections bytes ≡ None → k < section_count bytes → section_place bytes k + 40 ≤ length bytes
+place_inside bytes k h lt = omega (arith, lt, table_inside bytes h)

@@ -46,15 +46,15 @@ abbrev pub range_named : List Named → List ℕ → Option Range
 range_named [] name = None
 range_named (f ∷ fs) name = if bytes_eq f.name name then Some f.range else range_named fs name
 
--- the function of a name, or why there is none
+-- a range that is found, or why there is none: a fault of the file comes first
+abbrev pub found_unless : Option ElfFault → Option Range → Result Range FindFault
+found_unless (Some f) found = Err (find.Elf f)
+found_unless None None = Err find.NoFunction
+found_unless None (Some r) = Ok r
+
+-- the function of a name
 abbrev pub function_named : List ℕ → List ℕ → Result Range FindFault
-function_named bytes name = named_unless (broken_sections bytes) where
-  found : Option Range → Result Range FindFault
-  found None = Err find.NoFunction
-  found (Some r) = Ok r
-  named_unless : Option ElfFault → Result Range FindFault
-  named_unless None = found (range_named (functions_of bytes) name)
-  named_unless (Some f) = Err (find.Elf f)
+function_named bytes name = found_unless (broken_sections bytes) (range_named (functions_of bytes) name)
 
 -- the functions of a file whose sections break no rule
 abbrev pub functions_unless : List ℕ → Result (List Named) ElfFault

@@ -1,6 +1,6 @@
 use Rattle.std.proofs.Common.{◌≡◌, take, drop}
 use Rattle.elf_symbols.specs.Symbols.{ended}
-use Rattle.elf_symbols.proofs.Names.{after_front}
+use Rattle.elf_symbols.proofs.EndedNames.{after_front}
 use Rattle.elf_symbols.proofs.names.name.Given as goal
 
 abbrev pub invariant-loop-i : goal.invariant-loop-i
