@@ -41,7 +41,7 @@ over_some b (Some n) = refl
 
 over_cons : (b : ℕ) (bytes : List ℕ) → is_name (ended (b ∷ bytes)) [] ≡ (b == 0)
 over_cons zero bytes = refl
-over_cons (suc b) bytes = over_some (suc b) (ended bytes)
+over_cons (suc b) bytes = over_some (suc b) (ended bytes) ∙ sym (ne_eqb (suc b) 0 (λ e. omega (arith, e)))
 
 both_drop : (bytes name : List ℕ) (i : ℕ) → i < length bytes → i < length name
     → is_name (ended (drop i bytes)) (drop i name) ≡ is_name (ended (get_or bytes i 0 ∷ drop (i + 1) bytes)) (get_or name i 0 ∷ drop (i + 1) name)

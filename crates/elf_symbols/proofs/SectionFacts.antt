@@ -84,9 +84,9 @@ are_inside bytes k type h lt t e =
     let linked : Bool = nat_le (section_count bytes) (section_link bytes k) in
     let strings : Bool = passes_end bytes (section_link bytes k) in
     elim (and_cases (holds_symbols bytes k) (passes_end bytes k || (linked || strings)) (each_inside bytes k h lt)) [
-      | inl no ↦ absurd (both_ways (holds_symbols bytes k) no (of_type bytes k type t e))
-      | inr no ↦
-          let parts = or_parts (passes_end bytes k) (linked || strings) no in
+      | inl none ↦ absurd (both_ways (holds_symbols bytes k) none (of_type bytes k type t e))
+      | inr sound ↦
+          let parts = or_parts (passes_end bytes k) (linked || strings) sound in
           let others = or_parts linked strings parts.1 in
           record { symbols = parts.0; link = leb-false (section_count bytes) (section_link bytes k) others.0; strings = others.1 }
     ]
