@@ -2,3 +2,4 @@ mod EndedNames
 mod Rows
 mod SectionFacts
 mod FoundRanges
+mod LastZeros

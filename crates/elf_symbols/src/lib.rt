@@ -10,6 +10,7 @@ mod named;
 mod names;
 mod sections;
 mod symbols;
+mod zeros;
 
 pub use find::{FindFault, function_named};
 pub use list::{ListFault, functions};

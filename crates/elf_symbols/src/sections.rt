@@ -1,9 +1,9 @@
 //! The sections that hold symbols, and what is not accepted in them.
 
-ghost use Rattle.std.specs.Prelude.{◌≡◌, ◌+◌, ◌*◌, ◌≤◌, ◌<◌, length, false, IfSome};
+ghost use Rattle.std.specs.Prelude.{◌≡◌, ◌+◌, ◌*◌, ◌^◌, ◌≤◌, ◌<◌, length, false, IfSome};
 ghost use Rattle.elf_image.specs.First.{first_below};
 ghost use Rattle.elf_image.specs.Rules.{fault as fault_of};
-ghost use Rattle.elf_symbols.specs.Sections.{section_table, section_count, section_place, section_type as section_type_of, section_link as section_link_of, section_bytes, holds_symbols as holds_symbols_at, passes_end as passes_end_of, is_section_outside, broken_sections as broken_sections_of};
+ghost use Rattle.elf_symbols.specs.Sections.{section_table, section_count, section_place, section_type as section_type_of, section_link as section_link_of, section_offset as section_offset_of, section_size as section_size_of, section_bytes, holds_symbols as holds_symbols_at, passes_end as passes_end_of, is_section_outside, broken_sections as broken_sections_of};
 
 use crate::fields::{half, word};
 use elf_image::ElfFault;
@@ -49,6 +49,26 @@ pub fn section_link(bytes: &[u8], k: usize) -> usize
     word(bytes, header(bytes, k) + 24) as usize
 }
 
+/// The file place of the bytes of section k.
+pub fn section_offset(bytes: &[u8], k: usize) -> usize
+    requires file { 52 ≤ length bytes.now }
+    requires table { section_place bytes.now k + 40 ≤ length bytes.now }
+    ensures value { result ≡ section_offset_of bytes.now k }
+    ensures small { result < 2 ^ 32 }
+{
+    word(bytes, header(bytes, k) + 16) as usize
+}
+
+/// How many bytes section k has.
+pub fn section_size(bytes: &[u8], k: usize) -> usize
+    requires file { 52 ≤ length bytes.now }
+    requires table { section_place bytes.now k + 40 ≤ length bytes.now }
+    ensures value { result ≡ section_size_of bytes.now k }
+    ensures small { result < 2 ^ 32 }
+{
+    word(bytes, header(bytes, k) + 20) as usize
+}
+
 /// The bytes of section k.
 pub fn section(bytes: &[u8], k: usize) -> &[u8]
     requires file { 52 ≤ length bytes.now }
@@ -56,10 +76,8 @@ pub fn section(bytes: &[u8], k: usize) -> &[u8]
     requires inside { passes_end_of bytes.now k ≡ false }
     ensures { result.now ≡ section_bytes bytes.now k }
 {
-    let at = header(bytes, k);
-    let offset = word(bytes, at + 16) as usize;
-    let size = word(bytes, at + 20) as usize;
-    &bytes[offset..offset + size]
+    let offset = section_offset(bytes, k);
+    &bytes[offset..offset + section_size(bytes, k)]
 }
 
 fn passes_end(bytes: &[u8], k: usize) -> bool
@@ -67,8 +85,7 @@ fn passes_end(bytes: &[u8], k: usize) -> bool
     requires table { section_place bytes.now k + 40 ≤ length bytes.now }
     ensures { result ≡ passes_end_of bytes.now k }
 {
-    let at = header(bytes, k);
-    (bytes.len() as u64) < u64::from(word(bytes, at + 16)) + u64::from(word(bytes, at + 20))
+    bytes.len() < section_offset(bytes, k) + section_size(bytes, k)
 }
 
 fn holds_symbols(bytes: &[u8], k: usize) -> bool

@@ -22,11 +22,18 @@ pub fn range(table: &[u8], j: usize) -> Range
     Range::new(word(table, 16 * j + 4), word(table, 16 * j + 8))
 }
 
+/// The place in the string table at which symbol j's name begins.
+pub fn name_place(table: &[u8], j: usize) -> usize
+    requires { 16 * j + 16 ≤ length table.now }
+    ensures { result ≡ symbol_name table.now j }
+{
+    word(table, 16 * j) as usize
+}
+
 /// What stands in the string table from the place of symbol j's name on.
 pub fn from_name<'a>(table: &[u8], strings: &'a [u8], j: usize) -> &'a [u8]
     requires { 16 * j + 16 ≤ length table.now }
     ensures { result.now ≡ drop (symbol_name table.now j) strings.now }
 {
-    let place = (word(table, 16 * j) as usize).min(strings.len());
-    &strings[place..]
+    &strings[name_place(table, j).min(strings.len())..]
 }
