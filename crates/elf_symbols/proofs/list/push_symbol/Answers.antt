@@ -3,6 +3,7 @@ use Rattle.std.specs.Prelude.{if◌then◌else◌}
 use Rattle.elf_symbols.specs.Symbols.{symbol_name, symbol_range, name_of}
 use Rattle.elf_symbols.specs.Functions.{under_name, function_at}
 use Rattle.elf_symbols.proofs.LastZeros.{no_function}
+use Rattle.elf_symbols.proofs.list.push_symbol.Goals.{else-is_function-via-then-is_function+else-name_place-names, else-is_function-via-else-is_function}
 use Rattle.elf_symbols.proofs.list.push_symbol.Goals as goal
 
 pub returns-else-is_function : goal.returns-else-is_function
