@@ -44,8 +44,8 @@ pub no_names : (bytes : List ℕ) (o s : ℕ) → ended (drop (after_zero bytes 
 no_names bytes o s =
     let m : ℕ = after_zero bytes (o + s) - o in
     never_ended (drop m (take s (drop o bytes))) (λ i lt z.
-      let within : m + i < s = omega (arith, lt, length-drop m (take s (drop o bytes)), length-take s (drop o bytes)) in
-      none_after bytes (o + s) (o + (m + i)) (omega arith) (omega (arith, within)) (sym (at_place bytes o s m i within) ∙ z))
+    let within : m + i < s = omega (arith, lt, length-drop m (take s (drop o bytes)), length-take s (drop o bytes)) in
+    none_after bytes (o + s) (o + (m + i)) (omega arith) (omega (arith, within)) (sym (at_place bytes o s m i within) ∙ z))
 
 -- nor further on
 pub no_later_name : (xs : List ℕ) (m n : ℕ) → ended (drop m xs) ≡ None → m ≤ n → ended (drop n xs) ≡ None

@@ -46,7 +46,11 @@ fn named_in_section(bytes: &[u8], kind: u32, k: usize, name: &[u8]) -> Option<Ra
     ensures { result ≡ range_named (section_functions bytes.now kind k) name.now }
 {
     if section_type(bytes, k) == kind {
-        named_in_table(section(bytes, k), section(bytes, section_link(bytes, k)), name)
+        named_in_table(
+            section(bytes, k),
+            section(bytes, section_link(bytes, k)),
+            name,
+        )
     } else {
         None
     }

@@ -6,11 +6,11 @@ ghost use Rattle.elf_symbols.specs.Symbols.{ended};
 ghost use Rattle.elf_symbols.specs.Zeros.{zeros_below};
 ghost use Rattle.elf_symbols.specs.Functions.{function_at, functions_in, section_functions, type_functions, functions_of, functions_unless, ListFails};
 
+use crate::named::{self, Named};
 use crate::names::name;
 use crate::sections::{broken_sections, count, section, section_link, section_type};
 use crate::symbols::{from_name, is_function, name_place, range};
 use crate::zeros::{end_of_names, zeros};
-use crate::named::{self, Named};
 use elf_image::ElfFault;
 use std::alloc::{AllocError, Global};
 
@@ -36,7 +36,10 @@ fn push_symbol(
 {
     if is_function(table, j) && name_place(table, j) < names {
         if let Some(name) = name(alloc, from_name(table, strings, j))? {
-            list.push(Named { name, range: range(table, j) })?;
+            list.push(Named {
+                name,
+                range: range(table, j),
+            })?;
         }
     }
     Ok(())

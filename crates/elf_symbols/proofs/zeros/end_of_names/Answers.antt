@@ -27,7 +27,7 @@ returns c =
     let o : ℕ = section_offset bytes c.args.k in
     let s : ℕ = section_size bytes c.args.k in
     let is : c.saturating_sub.result ≡ after_zero bytes (o + s) - o =
-        c.saturating_sub.ensures ∙ ap (λ n. n - c.section_offset-offset.result) c.after_zero.ensures
-        ∙ ap (λ n. after_zero bytes (n + c.section_size.result) - n) c.section_offset-offset.ensures.value
-        ∙ ap (λ n. after_zero bytes (o + n) - o) c.section_size.ensures.value in
+    c.saturating_sub.ensures ∙ ap (λ n. n - c.section_offset-offset.result) c.after_zero.ensures
+    ∙ ap (λ n. after_zero bytes (n + c.section_size.result) - n) c.section_offset-offset.ensures.value
+    ∙ ap (λ n. after_zero bytes (o + n) - o) c.section_size.ensures.value in
     subst (λ n. ended (drop n (section_bytes bytes c.args.k)) ≡ None) (sym is) (no_names bytes o s)
