@@ -86,7 +86,7 @@ fn a_function_is_listed(rt: HostRuntime) -> Result<(), Fail> {
     };
     assert_eq!(rt; listed.len(), 1);
     for f in listed.as_slice() {
-        assert_eq!(rt; f.name.as_slice(), b"main");
+        assert_eq!(rt; f.name.as_slice(), b"main".as_slice());
         assert_eq!(rt; f.range, Range::new(ENTRY, 6));
     }
     Ok(())
