@@ -62,21 +62,21 @@ no_later_name (suc x ∷ xs) zero (suc n) h l = no_later_name xs zero n (tail_no
 
 pub length_zeros : (bytes : List ℕ) (n : ℕ) → length (zeros_below bytes n) ≡ n
 length_zeros bytes zero = refl
-length_zeros bytes (suc n) = length_push (zeros_below bytes n) (after_zero bytes (4096 * n)) ∙ ap (λ k. k + 1) (length_zeros bytes n) ∙ omega arith
+length_zeros bytes (suc n) = length_push (zeros_below bytes n) (after_zero bytes (256 * n)) ∙ ap (λ k. k + 1) (length_zeros bytes n) ∙ omega arith
 
-pub zeros_at : (bytes : List ℕ) (n k d : ℕ) → k < n → get_or (zeros_below bytes n) k d ≡ after_zero bytes (4096 * k)
+pub zeros_at : (bytes : List ℕ) (n k d : ℕ) → k < n → get_or (zeros_below bytes n) k d ≡ after_zero bytes (256 * k)
 zeros_at bytes zero k d lt = absurd (omega (arith, lt))
 zeros_at bytes (suc n) k d lt = elim (below_or_last k n lt) [
   | inl below ↦
-      get_or_append_left (zeros_below bytes n) (after_zero bytes (4096 * n) ∷ []) d k (omega (arith, below, length_zeros bytes n))
+      get_or_append_left (zeros_below bytes n) (after_zero bytes (256 * n) ∷ []) d k (omega (arith, below, length_zeros bytes n))
       ∙ zeros_at bytes n k d below
   | inr last ↦
-      get_or_push (zeros_below bytes n) (after_zero bytes (4096 * n)) d k (length_zeros bytes n ∙ sym last)
-      ∙ ap (λ j. after_zero bytes (4096 * j)) (sym last)
+      get_or_push (zeros_below bytes n) (after_zero bytes (256 * n)) d k (length_zeros bytes n ∙ sym last)
+      ∙ ap (λ j. after_zero bytes (256 * j)) (sym last)
 ]
 
 -- an earlier place has no later step
-pub step_within : (a n : ℕ) → a ≤ n → a / 4096 < n / 4096 + 1
+pub step_within : (a n : ℕ) → a ≤ n → a / 256 < n / 256 + 1
 step_within a n l = omega (arith, l)
 
 nothing : (b : Bool) (r : Range) → (if b then under_name None r else []) ≡ []

@@ -6,7 +6,7 @@ abbrev pub after_zero : List ℕ → ℕ → ℕ
 after_zero bytes zero = 0
 after_zero bytes (suc p) = if slice_index bytes p == 0 then suc p else after_zero bytes p
 
--- the same for the first n multiples of 4096
+-- the same for the first n multiples of 256
 abbrev pub zeros_below : List ℕ → ℕ → List ℕ
 zeros_below bytes zero = []
-zeros_below bytes (suc n) = zeros_below bytes n ++ after_zero bytes (4096 * n) ∷ []
+zeros_below bytes (suc n) = zeros_below bytes n ++ after_zero bytes (256 * n) ∷ []

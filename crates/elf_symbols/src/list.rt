@@ -70,7 +70,7 @@ fn push_section(
     list: &mut Vec<Named>,
 ) -> Result<(), AllocError>
     requires sections { broken_sections_of bytes.now ≡ None }
-    requires zeros { zeros.now ≡ zeros_below bytes.now (length bytes.now / 4096 + 1) }
+    requires zeros { zeros.now ≡ zeros_below bytes.now (length bytes.now / 256 + 1) }
     requires kinds { (kind == 2 || kind == 11) ≡ true }
     requires within { k < section_count bytes.now }
     ensures { OnOk result (list.new.items ≡ list.old.items ++ section_functions bytes.now kind k) }
@@ -91,7 +91,7 @@ fn push_sections(
     list: &mut Vec<Named>,
 ) -> Result<(), AllocError>
     requires sections { broken_sections_of bytes.now ≡ None }
-    requires zeros { zeros.now ≡ zeros_below bytes.now (length bytes.now / 4096 + 1) }
+    requires zeros { zeros.now ≡ zeros_below bytes.now (length bytes.now / 256 + 1) }
     requires kinds { (kind == 2 || kind == 11) ≡ true }
     ensures { OnOk result (list.new.items ≡ list.old.items ++ type_functions bytes.now kind) }
 {

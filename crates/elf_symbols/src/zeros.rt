@@ -25,15 +25,15 @@ fn after_zero(bytes: &[u8], from: usize, to: usize, known: usize) -> usize
     last
 }
 
-/// The places after the last zero byte below each multiple of 4096 that is no more than the file's length.
+/// The places after the last zero byte below each multiple of 256 that is no more than the file's length.
 pub fn zeros(alloc: Global, bytes: &[u8]) -> Result<Vec<usize>, AllocError>
-    ensures { IfOk result (λ v. v.items ≡ zeros_below bytes.now (length bytes.now / 4096 + 1)) }
+    ensures { IfOk result (λ v. v.items ≡ zeros_below bytes.now (length bytes.now / 256 + 1)) }
 {
     let mut zeros = Vec::new(alloc);
     let mut last = 0;
-    for k in 0..bytes.len() / 4096 {
+    for k in 0..bytes.len() / 256 {
         zeros.push(last)?;
-        last = after_zero(bytes, 4096 * k, 4096 * (k + 1), last);
+        last = after_zero(bytes, 256 * k, 256 * (k + 1), last);
     }
     zeros.push(last)?;
     Ok(zeros)
@@ -44,11 +44,11 @@ pub fn end_of_names(zeros: &[usize], bytes: &[u8], k: usize) -> usize
     requires file { 52 ≤ length bytes.now }
     requires table { section_place bytes.now k + 40 ≤ length bytes.now }
     requires inside { passes_end bytes.now k ≡ false }
-    requires zeros { zeros.now ≡ zeros_below bytes.now (length bytes.now / 4096 + 1) }
+    requires zeros { zeros.now ≡ zeros_below bytes.now (length bytes.now / 256 + 1) }
     ensures { ended (drop result (section_bytes bytes.now k)) ≡ None }
 {
     let offset = section_offset(bytes, k);
     let end = offset + section_size(bytes, k);
-    let step = end / 4096;
-    after_zero(bytes, 4096 * step, end, zeros[step]).saturating_sub(offset)
+    let step = end / 256;
+    after_zero(bytes, 256 * step, end, zeros[step]).saturating_sub(offset)
 }

@@ -10,8 +10,8 @@ bounds-zeros-step c =
     let bytes = c.args.bytes.now in
     let whole : section_offset bytes c.args.k + section_size bytes c.args.k ≤ length bytes = ltb-false (length bytes) (section_offset bytes c.args.k + section_size bytes c.args.k) c.requires.inside in
     let within : c.section_offset-offset.result + c.section_size.result ≤ length bytes = omega (arith, whole, c.section_offset-offset.ensures.value, c.section_size.ensures.value) in
-    let long : length c.args.zeros.now ≡ length bytes / 4096 + 1 = ap (λ z. length z) c.requires.zeros ∙ length_zeros bytes (length bytes / 4096 + 1) in
-    subst (λ n. (c.section_offset-offset.result + c.section_size.result) / 4096 < n) (sym long) (step_within (c.section_offset-offset.result + c.section_size.result) (length bytes) within)
+    let long : length c.args.zeros.now ≡ length bytes / 256 + 1 = ap (λ z. length z) c.requires.zeros ∙ length_zeros bytes (length bytes / 256 + 1) in
+    subst (λ n. (c.section_offset-offset.result + c.section_size.result) / 256 < n) (sym long) (step_within (c.section_offset-offset.result + c.section_size.result) (length bytes) within)
 
 pub after_zero-requires-clause-known : goal.after_zero-requires-clause-known
 after_zero-requires-clause-known c =
@@ -19,7 +19,7 @@ after_zero-requires-clause-known c =
     let end : ℕ = c.section_offset-offset.result + c.section_size.result in
     let whole : section_offset bytes c.args.k + section_size bytes c.args.k ≤ length bytes = ltb-false (length bytes) (section_offset bytes c.args.k + section_size bytes c.args.k) c.requires.inside in
     let within : end ≤ length bytes = omega (arith, whole, c.section_offset-offset.ensures.value, c.section_size.ensures.value) in
-    ap (λ z. slice_index_or z (end / 4096) 0) c.requires.zeros ∙ zeros_at bytes (length bytes / 4096 + 1) (end / 4096) 0 (step_within end (length bytes) within)
+    ap (λ z. slice_index_or z (end / 256) 0) c.requires.zeros ∙ zeros_at bytes (length bytes / 256 + 1) (end / 256) 0 (step_within end (length bytes) within)
 
 pub returns : goal.returns
 returns c =
