@@ -1,5 +1,5 @@
 -- Where the tokens of a text stand, and which tokens of the profile they are.
-use Rattle.std.specs.Prelude.{◌≡◌, ℕ, suc, ◌<◌, ◌≤◌, ◌^◌, List, [], ◌∷◌, ◌++◌, length, drop, slice_range, slice_index_or, Option, Some, None, if◌then◌else◌}
+use Rattle.std.specs.Prelude.{◌≡◌, ℕ, ◌+◌, ◌<◌, ◌≤◌, ◌^◌, List, [], ◌∷◌, ◌++◌, length, drop, slice_range, slice_index_or, Option, Some, None, if◌then◌else◌}
 use Rattle.dream_words.specs.declared.machine.Name.TheVariants as name
 use Rattle.c_syntax.specs.declared.token.Token.{Token}
 use Rattle.c_syntax.specs.declared.token.Token.TheVariants as tok
@@ -12,8 +12,8 @@ use Rattle.c_lex.specs.declared.scan.Lexeme.{Lexeme}
 abbrev pub places : List ℕ → ℕ → List ℕ → List ℕ
 places token at [] = []
 places token at (b ∷ text) =
-    if extends token b then places (token ++ b ∷ []) (suc at) text else
-    (if is_blank b then places [] (suc at) text else at ∷ places (b ∷ []) (suc at) text)
+    if extends token b then places (token ++ b ∷ []) (at + 1) text else
+    (if is_blank b then places [] (at + 1) text else at ∷ places (b ∷ []) (at + 1) text)
 
 -- the place of the token after the first k of a text, or the text's length where no token comes after them
 abbrev pub place_after : ℕ → List ℕ → ℕ

@@ -62,12 +62,14 @@ fn is_hexadecimal(n: u32, bytes: &[u8]) -> bool
     let Some((last, front)) = bytes.split_last() else {
         return false;
     };
-    if *last != glyph(n % 16) {
-        false
-    } else if n < 16 {
-        front == b"0x".as_slice()
+    if *last == glyph(n % 16) {
+        if n < 16 {
+            front == b"0x".as_slice()
+        } else {
+            is_hexadecimal(n / 16, front)
+        }
     } else {
-        is_hexadecimal(n / 16, front)
+        false
     }
 }
 
@@ -78,7 +80,11 @@ pub(crate) fn is_number(n: u32, bytes: &[u8]) -> bool
     let Some((last, front)) = bytes.split_last() else {
         return false;
     };
-    *last == b'u' && is_hexadecimal(n, front)
+    if *last == b'u' {
+        is_hexadecimal(n, front)
+    } else {
+        false
+    }
 }
 
 /// Whether the bytes are two texts one after the other.
@@ -86,7 +92,10 @@ fn is_joined(first: &[u8], second: &[u8], bytes: &[u8]) -> bool
     ensures { result ≡ bytes_eq bytes.now (first.now ++ second.now) }
 {
     let n = first.len();
-    n <= bytes.len() && &bytes[..n] == first && &bytes[n..] == second
+    if bytes.len() < n {
+        return false;
+    }
+    &bytes[..n] == first && &bytes[n..] == second
 }
 
 /// Whether the bytes are the name of the function at an address.

@@ -43,11 +43,12 @@ fn skip_blanks(text: &[u8], from: usize) -> usize
     ensures places { places [] from (drop from text.now) ≡ places [] result (drop result text.now) }
     ensures stops { result < length text.now → lex.is_blank (slice_index text.now result) ≡ false }
 {
-    let mut at = from;
-    while at < text.len() && is_blank(text[at]) {
-        at += 1;
+    for at in from..text.len() {
+        if !is_blank(text[at]) {
+            return at;
+        }
     }
-    at
+    text.len()
 }
 
 /// Where the token that begins at a place has ended.
@@ -59,9 +60,10 @@ fn token_end(text: &[u8], at: usize) -> usize
     ensures tokens { lex.tokens_in (drop at text.now) ≡ slice_range text.now at result ∷ lex.tokens_in (drop result text.now) }
     ensures places { places [] at (drop at text.now) ≡ at ∷ places [] result (drop result text.now) }
 {
-    let mut end = at + 1;
-    while end < text.len() && extends(&text[at..end], text[end]) {
-        end += 1;
+    for end in at + 1..text.len() {
+        if !extends(&text[at..end], text[end]) {
+            return end;
+        }
     }
-    end
+    text.len()
 }

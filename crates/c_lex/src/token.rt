@@ -134,8 +134,10 @@ fn candidate(bytes: &[u8]) -> Option<Token>
 pub fn token_of(bytes: &[u8]) -> Option<Token>
     ensures { IsTokenOf bytes.now result }
 {
-    match candidate(bytes) {
-        Some(token) if is_spelled(token, bytes) => Some(token),
-        _ => None,
+    let token = candidate(bytes)?;
+    if is_spelled(token, bytes) {
+        Some(token)
+    } else {
+        None
     }
 }
