@@ -1,4 +1,4 @@
-use Rattle.std.proofs.Common.{ap, sym, ◌∙◌, arith, ◌&&◌, length, drop, take}
+use Rattle.std.proofs.Common.{ap, sym, ◌∙◌, ◌&&◌, length, drop}
 use Rattle.std.specs.Str.{bytes_eq}
 use Rattle.std.proofs.lemmas.List.{take_rest}
 use Rattle.c_lex.proofs.Joining.{joined}
