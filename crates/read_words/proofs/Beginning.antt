@@ -59,10 +59,10 @@ module _ (l : Locals) (w : Wanted) (d : ℕ) (k : Rest) where
   begun : (x y : Token) (ts us : List Token) → x ∷ ts ≡ y ∷ us → Starts y us → Starts x ts
   begun x y ts us e h = subst (λ q. Starts q ts) (sym (head_of e)) (subst (Starts y) (sym (tail_of e)) h)
 
-  WordStarts : CExpr → Type 0
+  abbrev WordStarts : CExpr → Type 0
   WordStarts a = (x : Token) (ts r : List Token) → takes_word w ≡ true → FitsWord l d a → x ∷ ts ≡ word_tokens a r → k (item.Word a) r → Starts x ts
 
-  CondStarts : CCond → Type 0
+  abbrev CondStarts : CCond → Type 0
   CondStarts c = (x : Token) (ts r : List Token) → takes_cond w ≡ true → FitsCond l d c → x ∷ ts ≡ cond_tokens c r → k (item.Cond c) r → Starts x ts
 
   word_starts : WordCases WordStarts CondStarts
