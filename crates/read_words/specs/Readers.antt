@@ -6,4 +6,4 @@ use Rattle.read_words.specs.Turns.{Reading}
 -- what was read, the innermost open part first
 abbrev pub shown : Option Reader → Option Reading
 shown None = None
-shown (Some r) = Some (record { state = r.state; open' = reverse r.parts })
+shown (Some r) = Some (record { state = r.state; open' = reverse r.open })

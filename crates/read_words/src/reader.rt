@@ -15,7 +15,7 @@ use std::alloc::{AllocError, Global};
 #[derive(Drop)]
 pub struct Reader {
     pub state: State,
-    pub parts: Items<Open>,
+    pub open: Items<Open>,
 }
 
 /// A part stays as it is.
@@ -37,10 +37,10 @@ fn pushed(turn: Option<Turn>, mut parts: Items<Open>) -> Result<Option<Reader>, 
         Some(turn) => {
             let Turn { round, state } = turn;
             match round {
-                None => Ok(Some(Reader { state, parts })),
+                None => Ok(Some(Reader { state, open: parts })),
                 Some(part) => {
                     parts.push(part)?;
-                    Ok(Some(Reader { state, parts }))
+                    Ok(Some(Reader { state, open: parts }))
                 }
             }
         }
@@ -73,10 +73,10 @@ pub fn read_token(
     locals: Locals,
     token: Token,
 ) -> Result<Option<Reader>, AllocError>
-    ensures { IfOk result (λ r. shown r ≡ turns.step_of locals reader.state (reverse reader.parts) token) }
+    ensures { IfOk result (λ r. shown r ≡ turns.step_of locals reader.state (reverse reader.open) token) }
 {
-    let left = 256usize.saturating_sub(reader.parts.len());
-    let Reader { state, parts } = reader;
+    let left = 256usize.saturating_sub(reader.open.len());
+    let Reader { state, open: parts } = reader;
     match state {
         State::Want(wanted) => pushed(staying(begin(locals, wanted, left, token)), parts),
         State::Paren(wanted) => pushed(paren(locals, wanted, left, token), parts),
