@@ -1,0 +1,4 @@
+pub mod Turns
+pub mod Rests
+pub mod Reads
+pub mod Readers
