@@ -12,8 +12,8 @@ ghost use Rattle.run_lines.specs.StartWords.{given_by};
 
 use crate::header::HEADER;
 use crate::load::load;
-use crate::runs::run_text;
 use crate::notes::tell;
+use crate::runs::run_text;
 use crate::status::Status;
 use crate::words::{Command, Target, command_in};
 use crate::writing::put_all;
