@@ -1,93 +1,105 @@
 //! A file of one function whose symbol table names it, and the same file with one byte changed.
 
-use crate::{FindFault, ListFault, function_named, functions};
-use elf_image::{ElfFault, Range};
+use crate::{FindFault, ListFault, Named, function_named, functions};
 use std::alloc::{AllocError, Global};
 use std::test::Fail;
 
 const ENTRY: u32 = 0x0804_8100;
 
-/// Header, program header, code, two symbols at 262, their strings at 294, three section headers at 300.
-fn file(alloc: Global) -> Result<Vec<u8>, Fail> {
-    let header = [
-        0x0003_0002,
-        1,
-        ENTRY,
-        52,
-        300,
-        0,
-        0x0020_0034,
-        0x0028_0001,
-        3,
-    ];
-    let segment = [1, 0, 0x0804_8000, 0x0804_8000, 262, 262, 5, 4096];
-    let symbols = [0, 0, 0, 0, 1, ENTRY, 6, 0x0001_0012];
-    let sections = [
-        [0, 0, 0, 0, 0, 0, 0, 0, 0, 0],
-        [0, 2, 0, 0, 262, 32, 2, 0, 0, 16],
-        [0, 3, 0, 0, 294, 6, 0, 0, 0, 0],
-    ];
-    let mut bytes = Vec::from_slice(alloc, b"\x7fELF\x01\x01\x01\0\0\0\0\0\0\0\0\0")?;
-    push_words(&mut bytes, &header)?;
-    push_words(&mut bytes, &segment)?;
-    bytes.resize(0x100, 0)?;
-    bytes.extend_from_slice(b"\xb8\x05\0\0\0\xc3")?;
-    push_words(&mut bytes, &symbols)?;
-    bytes.extend_from_slice(b"\0main\0")?;
-    for section in sections {
-        push_words(&mut bytes, &section)?;
+// The header: the table of section headers is at 300 and has 3 entries.
+const HEADER: &[u8] =
+    b"\x7fELF\x01\x01\x01\0\0\0\0\0\0\0\0\0\x02\0\x03\0\x01\0\0\0\0\x81\x04\x084\0\0\0,\x01\0\0\0\0\0\04\0 \0\x01\0(\0\x03\0\0\0";
+
+// The program header, at 52.
+const SEGMENT: &[u8] =
+    b"\x01\0\0\0\0\0\0\0\0\x80\x04\x08\0\x80\x04\x08\x06\x01\0\0\x06\x01\0\0\x05\0\0\0\0\x10\0\0";
+
+// The code, at 256: mov eax, 5; ret.
+const CODE: &[u8] = b"\xb8\x05\0\0\0\xc3";
+
+// At 262 a symbol of zeros, and main, a defined function of 6 bytes; at 294 the strings.
+const SYMBOLS: &[u8] =
+    b"\0\0\0\0\0\0\0\0\0\0\0\0\0\0\0\0\x01\0\0\0\0\x81\x04\x08\x06\0\0\0\x12\0\x01\0\0main\0";
+
+// The second section header, of symbols, at 340, and the third, of strings.
+const SECTIONS: &[u8] =
+    b"\0\0\0\0\x02\0\0\0\0\0\0\0\0\0\0\0\x06\x01\0\0 \0\0\0\x02\0\0\0\0\0\0\0\0\0\0\0\x10\0\0\0\0\0\0\0\x03\0\0\0\0\0\0\0\0\0\0\0&\x01\0\0\x06\0\0\0\0\0\0\0\0\0\0\0\0\0\0\0\0\0\0\0";
+
+fn file(alloc: Global) -> Result<Vec<u8>, AllocError> {
+    let mut bytes = Vec::from_slice(alloc, HEADER)?;
+    bytes.extend_from_slice(SEGMENT)?;
+    bytes.resize(256, 0)?;
+    bytes.extend_from_slice(CODE)?;
+    bytes.extend_from_slice(SYMBOLS)?;
+    bytes.resize(340, 0)?;
+    bytes.extend_from_slice(SECTIONS)?;
+    Ok(bytes)
+}
+
+// The file with another byte at a place.
+fn changed(alloc: Global, place: usize, byte: u8) -> Result<Vec<u8>, AllocError> {
+    let mut bytes = file(alloc)?;
+    if let Some(b) = bytes.get_mut(place) {
+        *b = byte;
     }
     Ok(bytes)
 }
 
-fn push_words(bytes: &mut Vec<u8>, words: &[u32]) -> Result<(), Fail> {
-    for word in words {
-        bytes.extend_from_slice(&u32::to_le_bytes(*word))?;
-    }
-    Ok(())
-}
-
-fn broken(at: u64) -> Result<Range, FindFault> {
-    Err(FindFault::Elf(ElfFault { kind: 12, at }))
+// What is found in the changed file: the size of the range, or the place of the fault, or nothing.
+fn found(
+    alloc: Global,
+    place: usize,
+    byte: u8,
+    name: &[u8],
+) -> Result<(&'static str, u64), AllocError> {
+    Ok(match function_named(&changed(alloc, place, byte)?, name) {
+        Ok(range) if range.entry == ENTRY => ("found", u64::from(range.size)),
+        Ok(_) => ("elsewhere", 0),
+        Err(FindFault::Elf(fault)) => ("broken", fault.at),
+        Err(FindFault::NoFunction) => ("none", 0),
+    })
 }
 
 #[test]
 fn a_name_is_found(rt: HostRuntime) -> Result<(), Fail> {
-    let found = Ok(Range::new(ENTRY, 6));
-    let unknown = Err(FindFault::NoFunction);
-    let cases: [(usize, u8, &[u8], Result<Range, FindFault>); 8] = [
-        (0, 0x7f, b"main", found),
-        (0, 0x7f, b"mai", unknown),
-        (0, 0x7f, b"main\0", unknown),
+    let cases: [(usize, u8, &[u8], (&str, u64)); 8] = [
+        (0, 0x7f, b"main", ("found", 6)),
+        (0, 0x7f, b"mai", ("none", 0)),
+        (0, 0x7f, b"main\0", ("none", 0)),
         // the section headers have another size; their table lies outside; the link is that of no section
-        (46, 39, b"main", broken(46)),
-        (35, 0xff, b"main", broken(32)),
-        (364, 3, b"main", broken(340)),
+        (46, 39, b"main", ("broken", 46)),
+        (35, 0xff, b"main", ("broken", 32)),
+        (364, 3, b"main", ("broken", 340)),
         // the name isn't ended; the symbol isn't defined
-        (299, 0x41, b"main", unknown),
-        (292, 0, b"main", unknown),
+        (299, 0x41, b"main", ("none", 0)),
+        (292, 0, b"main", ("none", 0)),
     ];
     for (place, byte, name, want) in cases {
-        let mut bytes = file(rt.alloc())?;
-        if let Some(b) = bytes.get_mut(place) {
-            *b = byte;
-        }
-        assert_eq!(rt; function_named(&bytes, name), want, "{byte} at {place}");
+        assert_eq!(rt;
+            found(rt.alloc(), place, byte, name)?,
+            want,
+            "{byte} at {place}"
+        );
     }
     Ok(())
 }
 
+// How many functions there are, and the name and the size of the last.
+fn told(list: &[Named]) -> (usize, &[u8], u32) {
+    match list.last() {
+        None => (0, b"", 0),
+        Some(f) => (list.len(), f.name.as_slice(), f.range.size),
+    }
+}
+
 #[test]
 fn a_function_is_listed(rt: HostRuntime) -> Result<(), Fail> {
-    let listed = match functions(rt.alloc(), &file(rt.alloc())?) {
-        Ok(functions) => functions.list,
-        Err(ListFault::Memory) => return Err(AllocError.into()),
-        Err(ListFault::Elf(_)) => return Err("the sections are sound".into()),
-    };
-    assert_eq!(rt; listed.len(), 1);
-    for f in listed.as_slice() {
-        assert_eq!(rt; f.name.as_slice(), b"main".as_slice());
-        assert_eq!(rt; f.range, Range::new(ENTRY, 6));
+    match functions(rt.alloc(), &file(rt.alloc())?) {
+        Ok(functions) => {
+            assert_eq!(rt; told(&functions.list), (1, b"main".as_slice(), 6));
+            Ok(())
+        }
+        Err(ListFault::Memory) => Err(AllocError.into()),
+        Err(ListFault::Elf(_)) => Err("the sections are sound".into()),
     }
-    Ok(())
 }
