@@ -9,5 +9,5 @@ invariant-loop-at l = record {
   after : l.fn.from ≤ l.at;
   inside : l.at ≤ length l.text;
   tokens : lex.tokens_in (drop l.fn.from l.text) ≡ lex.tokens_in (drop l.at l.text);
-  places : places [] l.fn.from (drop l.fn.from l.text) ≡ places [] l.at (drop l.at l.text)
+  places : places [] l.fn.from (drop l.fn.from l.text) ≡ places [] l.at (drop l.at l.text);
 }

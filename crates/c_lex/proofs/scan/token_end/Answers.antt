@@ -9,5 +9,5 @@ loop-end-preserved c =
       long = omega arith;
       inside = omega arith;
       tokens = c.loop-end.invariant.tokens ∙ more_tokens c.args.text.now c.args.at c.loop-end.end (omega arith) (omega arith) e;
-      places = c.loop-end.invariant.places ∙ ap (λ r. c.args.at ∷ r) (more_places c.args.text.now c.args.at c.loop-end.end (omega arith) (omega arith) e)
+      places = c.loop-end.invariant.places ∙ ap (λ r. c.args.at ∷ r) (more_places c.args.text.now c.args.at c.loop-end.end (omega arith) (omega arith) e);
     }

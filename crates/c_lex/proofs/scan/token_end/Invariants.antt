@@ -9,5 +9,5 @@ invariant-loop-end l = record {
   long : l.fn.at < l.end;
   inside : l.end ≤ length l.text;
   tokens : lex.tokens_in (drop l.fn.at l.text) ≡ lex.lex (slice_range l.text l.fn.at l.end) (drop l.end l.text);
-  places : places [] l.fn.at (drop l.fn.at l.text) ≡ l.fn.at ∷ places (slice_range l.text l.fn.at l.end) l.end (drop l.end l.text)
+  places : places [] l.fn.at (drop l.fn.at l.text) ≡ l.fn.at ∷ places (slice_range l.text l.fn.at l.end) l.end (drop l.end l.text);
 }
