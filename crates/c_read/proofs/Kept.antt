@@ -196,7 +196,7 @@ module _ (f : CFun) (w : Bounds f) where
         (tt, (tt, cond_keeps u p.0 _ (tt, body_keeps ss hs b p.1 r v))));
     group_of = λ vs ss hs. group_layer (record { values = vs; body = ss }) (λ l r v.
         let p = both_true (has_any vs) (are_words vs && ok.all (map (stmt_allowed f) ss) true) l in let q = both_true (are_words vs) (ok.all (map (stmt_allowed f) ss) true) p.1 in
-        cases_keeps vs q.0 _ (body_keeps ss hs true q.1 _ (tt, (tt, v))))
+        cases_keeps vs q.0 _ (body_keeps ss hs true q.1 _ (tt, (tt, v))));
   }
 
   stmts_keep : (ss : List CStmt) → ok.stmts_allowed f ss ≡ true → Keeps (stmts_tokens ss)
@@ -211,7 +211,23 @@ decls_keep kind (suc n) h r v = decls_keep kind n (λ m l. h m (omega arith)) _ 
 -- all tokens of a well-formed function are those of some text
 pub fun_tokens_are : (f : CFun) → IsWellFormed f → AreTokens (fun_tokens f)
 fun_tokens_are f w =
-    let a = w.temps in let b = w.bools in let s = w.selectors in
-    (tt, (w.address, (tt, (tt, (tt, (tt,
-    decls_keep name.T f.temps (λ m l. omega arith) _ (decls_keep name.B f.bools (λ m l. omega arith) _ (decls_keep name.S f.selectors (λ m l. omega arith) _
-    (stmts_keep f (record { temps = w.temps; bools = w.bools; selectors = w.selectors }) f.body w.allowed _ (tt, tt))))))))))
+    let a = w.temps in let b = w.bools in let s = w.selectors in (
+      tt,
+      (
+        w.address,
+        (
+          tt,
+          (
+            tt,
+            (
+              tt,
+              (
+                tt,
+                decls_keep name.T f.temps (λ m l. omega arith) _ (decls_keep name.B f.bools (λ m l. omega arith) _ (decls_keep name.S f.selectors (λ m l. omega arith) _
+                    (stmts_keep f (record { temps = w.temps; bools = w.bools; selectors = w.selectors }) f.body w.allowed _ (tt, tt)))),
+              ),
+            ),
+          ),
+        ),
+      ),
+    )

@@ -68,7 +68,7 @@ module _ (S : Type 0) (start : S) (Completes : CFun → S → List Token → Typ
     are = are_more done x h.are i;
     kept = k;
     there = λ f ts c. (step f ts).0 (h.there f (x ∷ ts) (subst (Completes f start) (append_assoc done (x ∷ []) ts) c));
-    back = λ f ts c. subst (Completes f start) (sym (append_assoc done (x ∷ []) ts)) (h.back f (x ∷ ts) ((step f ts).1 c))
+    back = λ f ts c. subst (Completes f start) (sym (append_assoc done (x ∷ []) ts)) (h.back f (x ∷ ts) ((step f ts).1 c));
   }
 
   -- what was read is a front
@@ -96,7 +96,7 @@ module _ (S : Type 0) (start : S) (Completes : CFun → S → List Token → Typ
   refused done s b more h no tokens e = record {
     within = subst (λ t. length done ≤ length t) (sym e) (let q = spelt_length done in omega (arith, length-append (spelt done) (b ∷ more)));
     front = subst IsFront (sym (ap (take (length done)) e ∙ take_at (spelt done) (b ∷ more) (length done) (spelt_length done))) (front_of done s h);
-    longest = λ l fr. clash (subst IsFront taken fr)
+    longest = λ l fr. clash (subst IsFront taken fr);
   }
     where
       taken : take (length done + 1) tokens ≡ spelt done ++ b ∷ []
@@ -124,7 +124,7 @@ module _ (S : Type 0) (start : S) (Completes : CFun → S → List Token → Typ
   too_short done s h tokens e = record {
     within = subst (λ t. length done ≤ length t) (sym e) (let q = spelt_length done in omega arith);
     front = subst IsFront (sym (ap (take (length done)) (e ∙ sym (append-nil (spelt done))) ∙ take_at (spelt done) [] (length done) (spelt_length done))) (front_of done s h);
-    longest = λ l fr. absurd (let q = spelt_length done in let p = ap length e in omega arith)
+    longest = λ l fr. absurd (let q = spelt_length done in let p = ap length e in omega arith);
   }
 
   pub none_so_short : (done : List Token) (s : S) → IsSoFar done s → ((f : CFun) → Completes f s [] → ⊥) → (f : CFun) → IsWellFormed f → spelt done ≡ spelt (fun_tokens f) → ⊥

@@ -79,18 +79,77 @@ module _ (l : Locals) (w : Wanted) (d : ℕ) (k : Rest) where
         begun x (tok.Fn1 g) ts (tok.Open ∷ word_tokens a (tok.Close ∷ r)) (e ∙ ap (λ p. p r) (word_tokens_layer (CExpr-F.Fn1 g a)))
         (t, p.0, (word_tokens a (tok.Close ∷ r), refl, (item.Word a, (refl, p.1), (tok.Close ∷ r, refl, (r, refl, z)))));
     fn2 = λ g a b ha hb x ts r t f e z. let p = fn2_parts l d g a b f in
-        begun x (tok.Fn2 g) ts (tok.Open ∷ word_tokens a (tok.Comma ∷ word_tokens b (tok.Close ∷ r))) (e ∙ ap (λ p. p r) (word_tokens_layer (CExpr-F.Fn2 g a b)))
-        (t, p.0, (word_tokens a (tok.Comma ∷ word_tokens b (tok.Close ∷ r)), refl, (item.Word a, (refl, p.1), (tok.Comma ∷ word_tokens b (tok.Close ∷ r), refl,
-        (word_tokens b (tok.Close ∷ r), refl, (item.Word b, (refl, p.2), (tok.Close ∷ r, refl, (r, refl, z))))))));
+        begun x (tok.Fn2 g) ts (tok.Open ∷ word_tokens a (tok.Comma ∷ word_tokens b (tok.Close ∷ r))) (e ∙ ap (λ p. p r) (word_tokens_layer (CExpr-F.Fn2 g a b))) (
+          t,
+          p.0,
+          (
+            word_tokens a (tok.Comma ∷ word_tokens b (tok.Close ∷ r)),
+            refl,
+            (
+              item.Word a,
+              (refl, p.1),
+              (
+                tok.Comma ∷ word_tokens b (tok.Close ∷ r),
+                refl,
+                (word_tokens b (tok.Close ∷ r), refl, (item.Word b, (refl, p.2), (tok.Close ∷ r, refl, (r, refl, z)))),
+              ),
+            ),
+          ),
+        );
     fn3 = λ g a b q ha hb hq x ts r t f e z. let p = fn3_parts l d g a b q f in
-        begun x (tok.Fn3 g) ts (tok.Open ∷ word_tokens a (tok.Comma ∷ word_tokens b (tok.Comma ∷ word_tokens q (tok.Close ∷ r)))) (e ∙ ap (λ p. p r) (word_tokens_layer (CExpr-F.Fn3 g a b q)))
-        (t, p.0, (word_tokens a (tok.Comma ∷ word_tokens b (tok.Comma ∷ word_tokens q (tok.Close ∷ r))), refl, (item.Word a, (refl, p.1), (tok.Comma ∷ word_tokens b (tok.Comma ∷ word_tokens q (tok.Close ∷ r)), refl,
-        (word_tokens b (tok.Comma ∷ word_tokens q (tok.Close ∷ r)), refl, (item.Word b, (refl, p.2), (tok.Comma ∷ word_tokens q (tok.Close ∷ r), refl,
-        (word_tokens q (tok.Close ∷ r), refl, (item.Word q, (refl, p.3), (tok.Close ∷ r, refl, (r, refl, z)))))))))));
+        begun x (tok.Fn3 g) ts (tok.Open ∷ word_tokens a (tok.Comma ∷ word_tokens b (tok.Comma ∷ word_tokens q (tok.Close ∷ r)))) (e ∙ ap (λ p. p r) (word_tokens_layer (CExpr-F.Fn3 g a b q))) (
+          t,
+          p.0,
+          (
+            word_tokens a (tok.Comma ∷ word_tokens b (tok.Comma ∷ word_tokens q (tok.Close ∷ r))),
+            refl,
+            (
+              item.Word a,
+              (refl, p.1),
+              (
+                tok.Comma ∷ word_tokens b (tok.Comma ∷ word_tokens q (tok.Close ∷ r)),
+                refl,
+                (
+                  word_tokens b (tok.Comma ∷ word_tokens q (tok.Close ∷ r)),
+                  refl,
+                  (
+                    item.Word b,
+                    (refl, p.2),
+                    (
+                      tok.Comma ∷ word_tokens q (tok.Close ∷ r),
+                      refl,
+                      (word_tokens q (tok.Close ∷ r), refl, (item.Word q, (refl, p.3), (tok.Close ∷ r, refl, (r, refl, z)))),
+                    ),
+                  ),
+                ),
+              ),
+            ),
+          ),
+        );
     pick = λ u a b hu ha hb x ts r t f e z. let p = pick_parts l d u a b f in
-        begun x tok.Open ts (cond_tokens u (tok.Question ∷ word_tokens a (tok.Colon ∷ word_tokens b (tok.Close ∷ r)))) (e ∙ ap (λ p. p r) (word_tokens_layer (CExpr-F.Pick u a b)))
-        (p.0, inr (inr (item.Cond u, (refl, p.1), (tok.Question ∷ word_tokens a (tok.Colon ∷ word_tokens b (tok.Close ∷ r)), refl, (t, (item.Word a, (refl, p.2), (tok.Colon ∷ word_tokens b (tok.Close ∷ r), refl,
-        (word_tokens b (tok.Close ∷ r), refl, (item.Word b, (refl, p.3), (tok.Close ∷ r, refl, (r, refl, z)))))))))));
+        begun x tok.Open ts (cond_tokens u (tok.Question ∷ word_tokens a (tok.Colon ∷ word_tokens b (tok.Close ∷ r)))) (e ∙ ap (λ p. p r) (word_tokens_layer (CExpr-F.Pick u a b))) (
+          p.0,
+          inr (inr (
+            item.Cond u,
+            (refl, p.1),
+            (
+              tok.Question ∷ word_tokens a (tok.Colon ∷ word_tokens b (tok.Close ∷ r)),
+              refl,
+              (
+                t,
+                (
+                  item.Word a,
+                  (refl, p.2),
+                  (
+                    tok.Colon ∷ word_tokens b (tok.Close ∷ r),
+                    refl,
+                    (word_tokens b (tok.Close ∷ r), refl, (item.Word b, (refl, p.3), (tok.Close ∷ r, refl, (r, refl, z)))),
+                  ),
+                ),
+              ),
+            ),
+          )),
+        );
     cmp = λ op a b ha hb x ts r t f e z. let p = cmp_parts l d op a b f in
         begun x tok.Open ts (word_tokens a (tok.Compare op ∷ word_tokens b (tok.Close ∷ r))) (e ∙ ap (λ p. p r) (cond_tokens_layer (CCond-F.Cmp op a b)))
         (p.0, inr (inr (item.Word a, (refl, p.1), (tok.Compare op ∷ word_tokens b (tok.Close ∷ r), refl, (t, (item.Word b, (refl, p.2), (tok.Close ∷ r, refl, (r, refl, z))))))));
@@ -102,7 +161,7 @@ module _ (l : Locals) (w : Wanted) (d : ℕ) (k : Rest) where
         (p.0, inr (inr (item.Cond u, (refl, p.1), (tok.Both ∷ cond_tokens v (tok.Close ∷ r), refl, (t, (item.Cond v, (refl, p.2), (tok.Close ∷ r, refl, (r, refl, z))))))));
     either = λ u v hu hv x ts r t f e z. let p = or_parts l d u v f in
         begun x tok.Open ts (cond_tokens u (tok.Either ∷ cond_tokens v (tok.Close ∷ r))) (e ∙ ap (λ p. p r) (cond_tokens_layer (CCond-F.Or u v)))
-        (p.0, inr (inr (item.Cond u, (refl, p.1), (tok.Either ∷ cond_tokens v (tok.Close ∷ r), refl, (t, (item.Cond v, (refl, p.2), (tok.Close ∷ r, refl, (r, refl, z))))))))
+        (p.0, inr (inr (item.Cond u, (refl, p.1), (tok.Either ∷ cond_tokens v (tok.Close ∷ r), refl, (t, (item.Cond v, (refl, p.2), (tok.Close ∷ r, refl, (r, refl, z))))))));
   }
 
   -- what is wanted begins with its first token

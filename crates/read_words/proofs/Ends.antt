@@ -63,31 +63,76 @@ module _ (l : Locals) (d : ℕ) (h : 2 ≤ d) where
   nought = zero_fits l (d - 1) (omega arith)
 
   tilde_leads : (w : Wanted) → takes_word w ≡ true → Leads l w d (λ k. InParens l d k w)
-  tilde_leads w t =
-      (item.Word (roll-CExpr (CExpr-F.«CExpr::Not» zero)), (t, not_word_fits l d zero nought), (λ k ts z.
-      (tok.Tilde ∷ word_tokens zero (tok.Close ∷ ts), inl (t, (word_tokens zero (tok.Close ∷ ts), refl, (item.Word zero, (refl, nought), (tok.Close ∷ ts, refl, (ts, refl, z))))))))
+  tilde_leads w t = (
+    item.Word (roll-CExpr (CExpr-F.«CExpr::Not» zero)),
+    (t, not_word_fits l d zero nought),
+    (λ k ts z.
+        (tok.Tilde ∷ word_tokens zero (tok.Close ∷ ts), inl (t, (word_tokens zero (tok.Close ∷ ts), refl, (item.Word zero, (refl, nought), (tok.Close ∷ ts, refl, (ts, refl, z))))))),
+  )
 
   paren_leads : (w : Wanted) → Leads l w d (λ k. InParens l d k w)
   paren_leads want.Word = tilde_leads want.Word refl
-  paren_leads want.Cond =
-      (item.Cond same, (refl, cmp_fits l d cmp.Eq zero zero nought nought), (λ k ts z.
-      (word_tokens zero (tok.Compare cmp.Eq ∷ word_tokens zero (tok.Close ∷ ts)), inr (inr (item.Word zero, (refl, nought), (tok.Compare cmp.Eq ∷ word_tokens zero (tok.Close ∷ ts), refl,
-      (refl, (item.Word zero, (refl, nought), (tok.Close ∷ ts, refl, (ts, refl, z))))))))))
+  paren_leads want.Cond = (
+    item.Cond same,
+    (refl, cmp_fits l d cmp.Eq zero zero nought nought),
+    (λ k ts z. (
+      word_tokens zero (tok.Compare cmp.Eq ∷ word_tokens zero (tok.Close ∷ ts)),
+      inr (inr (
+        item.Word zero,
+        (refl, nought),
+        (
+          tok.Compare cmp.Eq ∷ word_tokens zero (tok.Close ∷ ts),
+          refl,
+          (refl, (item.Word zero, (refl, nought), (tok.Close ∷ ts, refl, (ts, refl, z)))),
+        ),
+      )),
+    )),
+  )
   paren_leads want.Either = tilde_leads want.Either refl
 
   call_leads : (w : Wanted) (f : Call) → takes_word w ≡ true → Leads l w d (λ k. StateRest l d k (state.Call f))
-  call_leads w (call.One g) t =
-      (item.Word (roll-CExpr (CExpr-F.Fn1 g zero)), (t, fn1_fits l d g zero nought), (λ k ts z.
-      (tok.Open ∷ word_tokens zero (tok.Close ∷ ts), (word_tokens zero (tok.Close ∷ ts), refl, (item.Word zero, (refl, nought), (tok.Close ∷ ts, refl, (ts, refl, z)))))))
-  call_leads w (call.Two g) t =
-      (item.Word (roll-CExpr (CExpr-F.Fn2 g zero zero)), (t, fn2_fits l d g zero zero nought nought), (λ k ts z.
-      (tok.Open ∷ word_tokens zero (tok.Comma ∷ word_tokens zero (tok.Close ∷ ts)), (word_tokens zero (tok.Comma ∷ word_tokens zero (tok.Close ∷ ts)), refl,
-      (item.Word zero, (refl, nought), (tok.Comma ∷ word_tokens zero (tok.Close ∷ ts), refl, (word_tokens zero (tok.Close ∷ ts), refl, (item.Word zero, (refl, nought), (tok.Close ∷ ts, refl, (ts, refl, z))))))))))
-  call_leads w (call.Three g) t =
-      (item.Word (roll-CExpr (CExpr-F.Fn3 g zero zero zero)), (t, fn3_fits l d g zero zero zero nought nought nought), (λ k ts z.
-      (tok.Open ∷ word_tokens zero (tok.Comma ∷ word_tokens zero (tok.Comma ∷ word_tokens zero (tok.Close ∷ ts))), (word_tokens zero (tok.Comma ∷ word_tokens zero (tok.Comma ∷ word_tokens zero (tok.Close ∷ ts))), refl,
-      (item.Word zero, (refl, nought), (tok.Comma ∷ word_tokens zero (tok.Comma ∷ word_tokens zero (tok.Close ∷ ts)), refl, (word_tokens zero (tok.Comma ∷ word_tokens zero (tok.Close ∷ ts)), refl,
-      (item.Word zero, (refl, nought), (tok.Comma ∷ word_tokens zero (tok.Close ∷ ts), refl, (word_tokens zero (tok.Close ∷ ts), refl, (item.Word zero, (refl, nought), (tok.Close ∷ ts, refl, (ts, refl, z)))))))))))))
+  call_leads w (call.One g) t = (
+    item.Word (roll-CExpr (CExpr-F.Fn1 g zero)),
+    (t, fn1_fits l d g zero nought),
+    (λ k ts z.
+        (tok.Open ∷ word_tokens zero (tok.Close ∷ ts), (word_tokens zero (tok.Close ∷ ts), refl, (item.Word zero, (refl, nought), (tok.Close ∷ ts, refl, (ts, refl, z)))))),
+  )
+  call_leads w (call.Two g) t = (
+    item.Word (roll-CExpr (CExpr-F.Fn2 g zero zero)),
+    (t, fn2_fits l d g zero zero nought nought),
+    (λ k ts z. (
+      tok.Open ∷ word_tokens zero (tok.Comma ∷ word_tokens zero (tok.Close ∷ ts)),
+      (
+        word_tokens zero (tok.Comma ∷ word_tokens zero (tok.Close ∷ ts)),
+        refl,
+        (item.Word zero, (refl, nought), (tok.Comma ∷ word_tokens zero (tok.Close ∷ ts), refl, (word_tokens zero (tok.Close ∷ ts), refl, (item.Word zero, (refl, nought), (tok.Close ∷ ts, refl, (ts, refl, z)))))),
+      ),
+    )),
+  )
+  call_leads w (call.Three g) t = (
+    item.Word (roll-CExpr (CExpr-F.Fn3 g zero zero zero)),
+    (t, fn3_fits l d g zero zero zero nought nought nought),
+    (λ k ts z. (
+      tok.Open ∷ word_tokens zero (tok.Comma ∷ word_tokens zero (tok.Comma ∷ word_tokens zero (tok.Close ∷ ts))),
+      (
+        word_tokens zero (tok.Comma ∷ word_tokens zero (tok.Comma ∷ word_tokens zero (tok.Close ∷ ts))),
+        refl,
+        (
+          item.Word zero,
+          (refl, nought),
+          (
+            tok.Comma ∷ word_tokens zero (tok.Comma ∷ word_tokens zero (tok.Close ∷ ts)),
+            refl,
+            (
+              word_tokens zero (tok.Comma ∷ word_tokens zero (tok.Close ∷ ts)),
+              refl,
+              (item.Word zero, (refl, nought), (tok.Comma ∷ word_tokens zero (tok.Close ∷ ts), refl, (word_tokens zero (tok.Close ∷ ts), refl, (item.Word zero, (refl, nought), (tok.Close ∷ ts, refl, (ts, refl, z)))))),
+            ),
+          ),
+        ),
+      ),
+    )),
+  )
 
 -- the innermost part can be completed
 state_leads : (l : Locals) (w : Wanted) (d : ℕ) (s : State) → StateFits l w d s → Leads l w d (λ k. StateRest l d k s)
@@ -108,26 +153,50 @@ module _ (l : Locals) (d : ℕ) where
   more h = zero_fits l (d - 1) h
 
   plus_leads : (w : Wanted) (a : CExpr) → takes_word w ≡ true → FitsWord l (d - 1) a → Leads l w d (λ k us. Sign l d k w (item.Word a) us)
-  plus_leads w a t f = let n = more (deep_word a f) in
-      (item.Word (roll-CExpr (CExpr-F.Bin bin.Add a zero)), (t, bin_fits l d bin.Add a zero f n), (λ k ts z.
-      (tok.Op bin.Add ∷ word_tokens zero (tok.Close ∷ ts), (t, (item.Word zero, (refl, n), (tok.Close ∷ ts, refl, (ts, refl, z)))))))
+  plus_leads w a t f = let n = more (deep_word a f) in (
+    item.Word (roll-CExpr (CExpr-F.Bin bin.Add a zero)),
+    (t, bin_fits l d bin.Add a zero f n),
+    (λ k ts z.
+        (tok.Op bin.Add ∷ word_tokens zero (tok.Close ∷ ts), (t, (item.Word zero, (refl, n), (tok.Close ∷ ts, refl, (ts, refl, z)))))),
+  )
 
   pick_leads : (w : Wanted) (c : CCond) → takes_word w ≡ true → FitsCond l (d - 1) c → Leads l w d (λ k us. Sign l d k w (item.Cond c) us)
-  pick_leads w c t f = let m = deep_cond c f in let n = more (omega arith) in
-      (item.Word (roll-CExpr (CExpr-F.Pick c zero zero)), (t, pick_fits l d c zero zero f n n), (λ k ts z.
-      (tok.Question ∷ word_tokens zero (tok.Colon ∷ word_tokens zero (tok.Close ∷ ts)), (t, (item.Word zero, (refl, n), (tok.Colon ∷ word_tokens zero (tok.Close ∷ ts), refl,
-      (word_tokens zero (tok.Close ∷ ts), refl, (item.Word zero, (refl, n), (tok.Close ∷ ts, refl, (ts, refl, z))))))))))
+  pick_leads w c t f = let m = deep_cond c f in let n = more (omega arith) in (
+    item.Word (roll-CExpr (CExpr-F.Pick c zero zero)),
+    (t, pick_fits l d c zero zero f n n),
+    (λ k ts z. (
+      tok.Question ∷ word_tokens zero (tok.Colon ∷ word_tokens zero (tok.Close ∷ ts)),
+      (
+        t,
+        (
+          item.Word zero,
+          (refl, n),
+          (
+            tok.Colon ∷ word_tokens zero (tok.Close ∷ ts),
+            refl,
+            (word_tokens zero (tok.Close ∷ ts), refl, (item.Word zero, (refl, n), (tok.Close ∷ ts, refl, (ts, refl, z)))),
+          ),
+        ),
+      ),
+    )),
+  )
 
   and_leads : (w : Wanted) (c : CCond) → takes_cond w ≡ true → FitsCond l (d - 1) c → Leads l w d (λ k us. Sign l d k w (item.Cond c) us)
-  and_leads w c t f = let n = same_fits l (d - 1) (deep_cond c f) in
-      (item.Cond (roll-CCond (CCond-F.And c same)), (t, and_fits l d c same f n), (λ k ts z.
-      (tok.Both ∷ cond_tokens same (tok.Close ∷ ts), (t, (item.Cond same, (refl, n), (tok.Close ∷ ts, refl, (ts, refl, z)))))))
+  and_leads w c t f = let n = same_fits l (d - 1) (deep_cond c f) in (
+    item.Cond (roll-CCond (CCond-F.And c same)),
+    (t, and_fits l d c same f n),
+    (λ k ts z.
+        (tok.Both ∷ cond_tokens same (tok.Close ∷ ts), (t, (item.Cond same, (refl, n), (tok.Close ∷ ts, refl, (ts, refl, z)))))),
+  )
 
   sign_leads : (w : Wanted) (i : Item) → Fits l want.Either (d - 1) i → Leads l w d (λ k us. Sign l d k w i us)
   sign_leads want.Word (item.Word a) f = plus_leads want.Word a refl f.1
-  sign_leads want.Cond (item.Word a) f = let n = more (deep_word a f.1) in
-      (item.Cond (roll-CCond (CCond-F.Cmp cmp.Eq a zero)), (refl, cmp_fits l d cmp.Eq a zero f.1 n), (λ k ts z.
-      (tok.Compare cmp.Eq ∷ word_tokens zero (tok.Close ∷ ts), (refl, (item.Word zero, (refl, n), (tok.Close ∷ ts, refl, (ts, refl, z)))))))
+  sign_leads want.Cond (item.Word a) f = let n = more (deep_word a f.1) in (
+    item.Cond (roll-CCond (CCond-F.Cmp cmp.Eq a zero)),
+    (refl, cmp_fits l d cmp.Eq a zero f.1 n),
+    (λ k ts z.
+        (tok.Compare cmp.Eq ∷ word_tokens zero (tok.Close ∷ ts), (refl, (item.Word zero, (refl, n), (tok.Close ∷ ts, refl, (ts, refl, z)))))),
+  )
   sign_leads want.Either (item.Word a) f = plus_leads want.Either a refl f.1
   sign_leads want.Word (item.Cond c) f = pick_leads want.Word c refl f.1
   sign_leads want.Cond (item.Cond c) f = and_leads want.Cond c refl f.1
@@ -148,22 +217,47 @@ module _ (l : Locals) (d : ℕ) where
   open_leads w (open'.Cmp op a) (item.Word b) p f = (item.Cond (roll-CCond (CCond-F.Cmp op a b)), (p.0, cmp_fits l d op a b p.1 f.1), (λ k ts z. (tok.Close ∷ ts, (ts, refl, z))))
   open_leads w (open'.And c) (item.Cond v) p f = (item.Cond (roll-CCond (CCond-F.And c v)), (p.0, and_fits l d c v p.1 f.1), (λ k ts z. (tok.Close ∷ ts, (ts, refl, z))))
   open_leads w (open'.Or c) (item.Cond v) p f = (item.Cond (roll-CCond (CCond-F.Or c v)), (p.0, or_fits l d c v p.1 f.1), (λ k ts z. (tok.Close ∷ ts, (ts, refl, z))))
-  open_leads w (open'.PickFirst c) (item.Word a) p f = let n = more (deep_word a f.1) in
-      (item.Word (roll-CExpr (CExpr-F.Pick c a zero)), (p.0, pick_fits l d c a zero p.1 f.1 n), (λ k ts z.
-      (tok.Colon ∷ word_tokens zero (tok.Close ∷ ts), (word_tokens zero (tok.Close ∷ ts), refl, (item.Word zero, (refl, n), (tok.Close ∷ ts, refl, (ts, refl, z)))))))
+  open_leads w (open'.PickFirst c) (item.Word a) p f = let n = more (deep_word a f.1) in (
+    item.Word (roll-CExpr (CExpr-F.Pick c a zero)),
+    (p.0, pick_fits l d c a zero p.1 f.1 n),
+    (λ k ts z.
+        (tok.Colon ∷ word_tokens zero (tok.Close ∷ ts), (word_tokens zero (tok.Close ∷ ts), refl, (item.Word zero, (refl, n), (tok.Close ∷ ts, refl, (ts, refl, z)))))),
+  )
   open_leads w (open'.PickSecond c a) (item.Word b) p f = (item.Word (roll-CExpr (CExpr-F.Pick c a b)), (p.0, pick_fits l d c a b p.1 p.2 f.1), (λ k ts z. (tok.Close ∷ ts, (ts, refl, z))))
   open_leads w (open'.One g) (item.Word a) p f = (item.Word (roll-CExpr (CExpr-F.Fn1 g a)), (p.0, fn1_fits l d g a f.1), (λ k ts z. (tok.Close ∷ ts, (ts, refl, z))))
-  open_leads w (open'.TwoFirst g) (item.Word a) p f = let n = more (deep_word a f.1) in
-      (item.Word (roll-CExpr (CExpr-F.Fn2 g a zero)), (p.0, fn2_fits l d g a zero f.1 n), (λ k ts z.
-      (tok.Comma ∷ word_tokens zero (tok.Close ∷ ts), (word_tokens zero (tok.Close ∷ ts), refl, (item.Word zero, (refl, n), (tok.Close ∷ ts, refl, (ts, refl, z)))))))
+  open_leads w (open'.TwoFirst g) (item.Word a) p f = let n = more (deep_word a f.1) in (
+    item.Word (roll-CExpr (CExpr-F.Fn2 g a zero)),
+    (p.0, fn2_fits l d g a zero f.1 n),
+    (λ k ts z.
+        (tok.Comma ∷ word_tokens zero (tok.Close ∷ ts), (word_tokens zero (tok.Close ∷ ts), refl, (item.Word zero, (refl, n), (tok.Close ∷ ts, refl, (ts, refl, z)))))),
+  )
   open_leads w (open'.TwoSecond g a) (item.Word b) p f = (item.Word (roll-CExpr (CExpr-F.Fn2 g a b)), (p.0, fn2_fits l d g a b p.1 f.1), (λ k ts z. (tok.Close ∷ ts, (ts, refl, z))))
-  open_leads w (open'.ThreeFirst g) (item.Word a) p f = let n = more (deep_word a f.1) in
-      (item.Word (roll-CExpr (CExpr-F.Fn3 g a zero zero)), (p.0, fn3_fits l d g a zero zero f.1 n n), (λ k ts z.
-      (tok.Comma ∷ word_tokens zero (tok.Comma ∷ word_tokens zero (tok.Close ∷ ts)), (word_tokens zero (tok.Comma ∷ word_tokens zero (tok.Close ∷ ts)), refl, (item.Word zero, (refl, n), (tok.Comma ∷ word_tokens zero (tok.Close ∷ ts), refl,
-      (word_tokens zero (tok.Close ∷ ts), refl, (item.Word zero, (refl, n), (tok.Close ∷ ts, refl, (ts, refl, z))))))))))
-  open_leads w (open'.ThreeSecond g a) (item.Word b) p f = let n = more (deep_word b f.1) in
-      (item.Word (roll-CExpr (CExpr-F.Fn3 g a b zero)), (p.0, fn3_fits l d g a b zero p.1 f.1 n), (λ k ts z.
-      (tok.Comma ∷ word_tokens zero (tok.Close ∷ ts), (word_tokens zero (tok.Close ∷ ts), refl, (item.Word zero, (refl, n), (tok.Close ∷ ts, refl, (ts, refl, z)))))))
+  open_leads w (open'.ThreeFirst g) (item.Word a) p f = let n = more (deep_word a f.1) in (
+    item.Word (roll-CExpr (CExpr-F.Fn3 g a zero zero)),
+    (p.0, fn3_fits l d g a zero zero f.1 n n),
+    (λ k ts z. (
+      tok.Comma ∷ word_tokens zero (tok.Comma ∷ word_tokens zero (tok.Close ∷ ts)),
+      (
+        word_tokens zero (tok.Comma ∷ word_tokens zero (tok.Close ∷ ts)),
+        refl,
+        (
+          item.Word zero,
+          (refl, n),
+          (
+            tok.Comma ∷ word_tokens zero (tok.Close ∷ ts),
+            refl,
+            (word_tokens zero (tok.Close ∷ ts), refl, (item.Word zero, (refl, n), (tok.Close ∷ ts, refl, (ts, refl, z)))),
+          ),
+        ),
+      ),
+    )),
+  )
+  open_leads w (open'.ThreeSecond g a) (item.Word b) p f = let n = more (deep_word b f.1) in (
+    item.Word (roll-CExpr (CExpr-F.Fn3 g a b zero)),
+    (p.0, fn3_fits l d g a b zero p.1 f.1 n),
+    (λ k ts z.
+        (tok.Comma ∷ word_tokens zero (tok.Close ∷ ts), (word_tokens zero (tok.Close ∷ ts), refl, (item.Word zero, (refl, n), (tok.Close ∷ ts, refl, (ts, refl, z)))))),
+  )
   open_leads w (open'.ThreeThird g a b) (item.Word v) p f = (item.Word (roll-CExpr (CExpr-F.Fn3 g a b v)), (p.0, fn3_fits l d g a b v p.1 p.2 f.1), (λ k ts z. (tok.Close ∷ ts, (ts, refl, z))))
   open_leads w open'.NotWord (item.Cond c) p f = no_cond f.0
   open_leads w open'.NotCond (item.Word a) p f = no_word f.0
@@ -224,7 +318,7 @@ no_empty = record {
   cmp = λ op a b ha hb r e. nil_no (e ∙ ap (λ p. p r) (cond_tokens_layer (CCond-F.Cmp op a b)));
   not_cond = λ u hu r e. nil_no (e ∙ ap (λ p. p r) (cond_tokens_layer (CCond-F.«CCond::Not» u)));
   both = λ u v hu hv r e. nil_no (e ∙ ap (λ p. p r) (cond_tokens_layer (CCond-F.And u v)));
-  either = λ u v hu hv r e. nil_no (e ∙ ap (λ p. p r) (cond_tokens_layer (CCond-F.Or u v)))
+  either = λ u v hu hv r e. nil_no (e ∙ ap (λ p. p r) (cond_tokens_layer (CCond-F.Or u v)));
 }
 
 pub wants_more : (l : Locals) (w : Wanted) (d : ℕ) (k : Rest) → Wants l w d k [] → ⊥

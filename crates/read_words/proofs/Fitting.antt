@@ -48,7 +48,7 @@ least = record {
   cmp = λ op a b ha hb. cond_deep (CCond-F.Cmp op a b) (omega arith);
   not_cond = λ u hu. cond_deep (CCond-F.«CCond::Not» u) (omega arith);
   both = λ u v hu hv. cond_deep (CCond-F.And u v) (omega arith);
-  either = λ u v hu hv. cond_deep (CCond-F.Or u v) (omega arith)
+  either = λ u v hu hv. cond_deep (CCond-F.Or u v) (omega arith);
 }
 
 pub word_least : (a : CExpr) → 1 ≤ word_depth a
@@ -87,12 +87,12 @@ module _ (l : Locals) (d : ℕ) where
   pub name_declared : (n : Name) → FitsWord l d (roll-CExpr (CExpr-F.Name n)) → is_declared (scope l) n ≡ true
   name_declared n h = word_names_are (CExpr-F.Name n) h
 
-  pub not_word_parts :  (a : CExpr) → FitsWord l d (roll-CExpr (CExpr-F.«CExpr::Not» a)) → (2 ≤ d) × FitsWord l (d - 1) a
+  pub not_word_parts : (a : CExpr) → FitsWord l d (roll-CExpr (CExpr-F.«CExpr::Not» a)) → (2 ≤ d) × FitsWord l (d - 1) a
   not_word_parts a h =
       let p : word_depth a + 1 ≤ d = word_depth_is (CExpr-F.«CExpr::Not» a) h in
       (omega (arith, word_least a), record { names = word_names_are (CExpr-F.«CExpr::Not» a) h; deep = omega arith })
 
-  pub not_word_fits :  (a : CExpr) → FitsWord l (d - 1) a → FitsWord l d (roll-CExpr (CExpr-F.«CExpr::Not» a))
+  pub not_word_fits : (a : CExpr) → FitsWord l (d - 1) a → FitsWord l d (roll-CExpr (CExpr-F.«CExpr::Not» a))
   not_word_fits a ha =
       let pa : word_depth a ≤ d - 1 = ha.deep in
       let p : word_depth a + 1 ≤ d = omega (arith, word_least a) in
@@ -150,14 +150,14 @@ module _ (l : Locals) (d : ℕ) where
       let p : max (word_depth a) (max (word_depth b) (word_depth q)) + 1 ≤ d = omega (arith, word_least a, word_least b, word_least q) in
       whole_word (CExpr-F.Fn3 f a b q) (two_true (names_word (scope l) a) (names_word (scope l) b && names_word (scope l) q) ha.names (two_true (names_word (scope l) b) (names_word (scope l) q) hb.names hq.names)) p
 
-  pub pick_parts :  (u : CCond) (a : CExpr) (b : CExpr) → FitsWord l d (roll-CExpr (CExpr-F.Pick u a b)) → (2 ≤ d) × FitsCond l (d - 1) u × FitsWord l (d - 1) a × FitsWord l (d - 1) b
+  pub pick_parts : (u : CCond) (a : CExpr) (b : CExpr) → FitsWord l d (roll-CExpr (CExpr-F.Pick u a b)) → (2 ≤ d) × FitsCond l (d - 1) u × FitsWord l (d - 1) a × FitsWord l (d - 1) b
   pick_parts u a b h =
       let p : max (cond_depth u) (max (word_depth a) (word_depth b)) + 1 ≤ d = word_depth_is (CExpr-F.Pick u a b) h in
       let n = both_true (names_cond (scope l) u) (names_word (scope l) a && names_word (scope l) b) (word_names_are (CExpr-F.Pick u a b) h) in
       let m = both_true (names_word (scope l) a) (names_word (scope l) b) n.1 in
       (omega (arith, cond_least u, word_least a, word_least b), record { names = n.0; deep = omega arith }, record { names = m.0; deep = omega arith }, record { names = m.1; deep = omega arith })
 
-  pub pick_fits :  (u : CCond) (a : CExpr) (b : CExpr) → FitsCond l (d - 1) u → FitsWord l (d - 1) a → FitsWord l (d - 1) b → FitsWord l d (roll-CExpr (CExpr-F.Pick u a b))
+  pub pick_fits : (u : CCond) (a : CExpr) (b : CExpr) → FitsCond l (d - 1) u → FitsWord l (d - 1) a → FitsWord l (d - 1) b → FitsWord l d (roll-CExpr (CExpr-F.Pick u a b))
   pick_fits u a b hu ha hb =
       let pu : cond_depth u ≤ d - 1 = hu.deep in
       let pa : word_depth a ≤ d - 1 = ha.deep in
@@ -178,37 +178,37 @@ module _ (l : Locals) (d : ℕ) where
       let p : max (word_depth a) (word_depth b) + 1 ≤ d = omega (arith, word_least a, word_least b) in
       whole_cond (CCond-F.Cmp op a b) (two_true (names_word (scope l) a) (names_word (scope l) b) ha.names hb.names) p
 
-  pub not_cond_parts :  (u : CCond) → FitsCond l d (roll-CCond (CCond-F.«CCond::Not» u)) → (3 ≤ d) × FitsCond l (d - 1) u
+  pub not_cond_parts : (u : CCond) → FitsCond l d (roll-CCond (CCond-F.«CCond::Not» u)) → (3 ≤ d) × FitsCond l (d - 1) u
   not_cond_parts u h =
       let p : cond_depth u + 1 ≤ d = cond_depth_is (CCond-F.«CCond::Not» u) h in
       (omega (arith, cond_least u), record { names = cond_names_are (CCond-F.«CCond::Not» u) h; deep = omega arith })
 
-  pub not_cond_fits :  (u : CCond) → FitsCond l (d - 1) u → FitsCond l d (roll-CCond (CCond-F.«CCond::Not» u))
+  pub not_cond_fits : (u : CCond) → FitsCond l (d - 1) u → FitsCond l d (roll-CCond (CCond-F.«CCond::Not» u))
   not_cond_fits u hu =
       let pu : cond_depth u ≤ d - 1 = hu.deep in
       let p : cond_depth u + 1 ≤ d = omega (arith, cond_least u) in
       whole_cond (CCond-F.«CCond::Not» u) (hu.names) p
 
-  pub and_parts :  (u : CCond) (v : CCond) → FitsCond l d (roll-CCond (CCond-F.And u v)) → (2 ≤ d) × FitsCond l (d - 1) u × FitsCond l (d - 1) v
+  pub and_parts : (u : CCond) (v : CCond) → FitsCond l d (roll-CCond (CCond-F.And u v)) → (2 ≤ d) × FitsCond l (d - 1) u × FitsCond l (d - 1) v
   and_parts u v h =
       let p : max (cond_depth u) (cond_depth v) + 1 ≤ d = cond_depth_is (CCond-F.And u v) h in
       let n = both_true (names_cond (scope l) u) (names_cond (scope l) v) (cond_names_are (CCond-F.And u v) h) in
       (omega (arith, cond_least u, cond_least v), record { names = n.0; deep = omega arith }, record { names = n.1; deep = omega arith })
 
-  pub and_fits :  (u : CCond) (v : CCond) → FitsCond l (d - 1) u → FitsCond l (d - 1) v → FitsCond l d (roll-CCond (CCond-F.And u v))
+  pub and_fits : (u : CCond) (v : CCond) → FitsCond l (d - 1) u → FitsCond l (d - 1) v → FitsCond l d (roll-CCond (CCond-F.And u v))
   and_fits u v hu hv =
       let pu : cond_depth u ≤ d - 1 = hu.deep in
       let pv : cond_depth v ≤ d - 1 = hv.deep in
       let p : max (cond_depth u) (cond_depth v) + 1 ≤ d = omega (arith, cond_least u, cond_least v) in
       whole_cond (CCond-F.And u v) (two_true (names_cond (scope l) u) (names_cond (scope l) v) hu.names hv.names) p
 
-  pub or_parts :  (u : CCond) (v : CCond) → FitsCond l d (roll-CCond (CCond-F.Or u v)) → (2 ≤ d) × FitsCond l (d - 1) u × FitsCond l (d - 1) v
+  pub or_parts : (u : CCond) (v : CCond) → FitsCond l d (roll-CCond (CCond-F.Or u v)) → (2 ≤ d) × FitsCond l (d - 1) u × FitsCond l (d - 1) v
   or_parts u v h =
       let p : max (cond_depth u) (cond_depth v) + 1 ≤ d = cond_depth_is (CCond-F.Or u v) h in
       let n = both_true (names_cond (scope l) u) (names_cond (scope l) v) (cond_names_are (CCond-F.Or u v) h) in
       (omega (arith, cond_least u, cond_least v), record { names = n.0; deep = omega arith }, record { names = n.1; deep = omega arith })
 
-  pub or_fits :  (u : CCond) (v : CCond) → FitsCond l (d - 1) u → FitsCond l (d - 1) v → FitsCond l d (roll-CCond (CCond-F.Or u v))
+  pub or_fits : (u : CCond) (v : CCond) → FitsCond l (d - 1) u → FitsCond l (d - 1) v → FitsCond l d (roll-CCond (CCond-F.Or u v))
   or_fits u v hu hv =
       let pu : cond_depth u ≤ d - 1 = hu.deep in
       let pv : cond_depth v ≤ d - 1 = hv.deep in

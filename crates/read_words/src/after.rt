@@ -67,17 +67,15 @@ fn after_word(alloc: Global, part: Open, a: CExpr, token: Token) -> Result<Optio
         Open::TwoSecond(f, first) => Ok(close(token, Item::Word(fn2(alloc, f, first, a)?))),
         Open::ThreeFirst(f) => Ok(comma(token, Open::ThreeSecond(f, a))),
         Open::ThreeSecond(f, first) => Ok(comma(token, Open::ThreeThird(f, first, a))),
-        Open::ThreeThird(f, first, second) => Ok(close(token, Item::Word(fn3(alloc, f, first, second, a)?))),
+        Open::ThreeThird(f, first, second) => Ok(close(
+            token,
+            Item::Word(fn3(alloc, f, first, second, a)?),
+        )),
     }
 }
 
 /// The token after a Cond inside an open part.
-fn after_cond(
-    alloc: Global,
-    part: Open,
-    c: CCond,
-    token: Token,
-) -> Result<Option<Turn>, AllocError>
+fn after_cond(alloc: Global, part: Open, c: CCond, token: Token) -> Result<Option<Turn>, AllocError>
     ensures { IfOk result (λ t. t ≡ turns.after_cond part c token) }
 {
     match part {
