@@ -29,6 +29,7 @@ fn staying(begun: Option<State>) -> Option<Turn>
 }
 
 /// A turn of the innermost part.
+#[tactic(auto, using(crate::proofs::Stack::reverse_push))]
 fn pushed(turn: Option<Turn>, mut parts: Items<Open>) -> Result<Option<Reader>, AllocError>
     ensures { IfOk result (λ r. shown r ≡ turns.turned (reverse parts) turn) }
 {
@@ -48,6 +49,7 @@ fn pushed(turn: Option<Turn>, mut parts: Items<Open>) -> Result<Option<Reader>, 
 }
 
 /// The token after a whole part.
+#[tactic(auto, using(crate::proofs::Stack::reverse_push))]
 fn after_part(
     alloc: Global,
     item: Item,
@@ -67,6 +69,7 @@ fn after_part(
 
 /// The token after what was read; none where no Word or Cond goes on with it. A part that is whole and
 /// isn't in an open one has been read to its end.
+#[tactic(auto, using(crate::proofs::Stack::depth_of))]
 pub fn read_token(
     reader: Reader,
     alloc: Global,
