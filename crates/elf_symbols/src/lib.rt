@@ -10,8 +10,6 @@ mod named;
 mod names;
 mod sections;
 mod symbols;
-#[cfg(test)]
-mod tests;
 mod zeros;
 
 pub use find::{FindFault, function_named};

@@ -3,4 +3,3 @@ pub mod Beginning
 pub mod Turning
 pub mod Steps
 pub mod Ends
-pub mod Stack

@@ -28,7 +28,7 @@ use Rattle.c_syntax.specs.declared.syntax.CCmp.TheVariants as cmp
 use Rattle.c_syntax.specs.Tokens.{word_tokens, cond_tokens}
 use Rattle.c_syntax.specs.Depth.{word_depth, cond_depth}
 use Rattle.c_lex.specs.Lexemes.{IsToken}
-use Rattle.read_words.specs.Turns.{Reading, scope, takes_word, takes_cond, argument, begin, paren, called, after, staying, turned, pushed, depth_left, step_of}
+use Rattle.read_words.specs.Turns.{Reading, scope, takes_word, takes_cond, argument, begin, paren, called, after, staying, turn, turned, pushed, depth_left, step_of}
 use Rattle.read_words.specs.Rests.{Rest, Fits, FitsWord, FitsCond, Follows, Wants, After, InParens, StateRest, Rests, GoesOn, item_tokens}
 use Rattle.read_words.specs.Reads.{HasDepth, OpenFits, StateFits, OpenFit, wanted, wanted_in, IsRead, IsOpen, IsStep, Ends, OneToken, CanGoOn, NotTheEnd, FromTheStart}
 use Rattle.read_words.proofs.Fitting.{word_least, cond_least, num_fits, not_word_fits, bin_fits, fn1_fits, fn2_fits, fn3_fits, pick_fits, cmp_fits, not_cond_fits, and_fits, or_fits}

@@ -28,7 +28,7 @@ use Rattle.read_words.specs.declared.open.Turn.{Turn}
 use Rattle.c_syntax.specs.Depth.{cond_depth}
 use Rattle.c_syntax.specs.Formed.{is_declared}
 use Rattle.c_lex.specs.Lexemes.{IsToken}
-use Rattle.read_words.specs.Turns.{scope, takes_word, takes_cond, argument, stays, opens, begin, first, paren, called, at_close, at_comma, at_colon, word_sign, cond_sign, after_word, after_cond, after, staying}
+use Rattle.read_words.specs.Turns.{scope, takes_word, takes_cond, argument, stays, opens, begin, first, paren, called, at_close, at_comma, at_colon, word_sign, cond_sign, after_word, after_cond, after, staying, turn}
 use Rattle.read_words.specs.Rests.{Rest, Fits, FitsWord, FitsCond, Follows, Wants, After, InParens, WordSign, CondSign, StateRest, item_tokens}
 use Rattle.read_words.specs.Reads.{HasDepth, OpenFits, StateFits, wanted_in}
 use Rattle.read_words.proofs.Fitting.{both_true, two_true, word_least, cond_least, num_fits, name_fits, not_word_fits, bin_fits, fn1_fits, fn2_fits, fn3_fits, pick_fits, cmp_fits, not_cond_fits, and_fits, or_fits}

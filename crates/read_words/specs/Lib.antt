@@ -1,4 +1,3 @@
 pub mod Turns
 pub mod Rests
 pub mod Reads
-pub mod Readers

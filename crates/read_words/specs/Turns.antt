@@ -143,6 +143,13 @@ abbrev pub staying : Option State → Option Turn
 staying None = None
 staying (Some s) = Some (stays s)
 
+-- the token after a part that isn't whole
+abbrev pub turn : Locals → ℕ → State → Token → Option Turn
+turn l left (state.Want w) x = staying (begin l w left x)
+turn l left (state.Paren w) x = paren l w left x
+turn l left (state.Call f) x = called f x
+turn l left (state.Have i) x = None
+
 -- how much depth is left for a part inside these open ones, the innermost first
 abbrev pub depth_left : List Open → ℕ
 depth_left [] = 256
@@ -162,14 +169,10 @@ abbrev pub turned : List Open → Option Turn → Option Reading
 turned os None = None
 turned os (Some t) = Some (record { state = t.state; open' = pushed t.round os })
 
--- the token after a whole part inside these open ones
-abbrev pub after_part : Item → List Open → Token → Option Reading
-after_part i [] x = None
-after_part i (o ∷ os) x = turned os (after o i x)
-
 -- The token after what was read; none where no Word or Cond goes on with it. A whole part is inside the innermost open one.
 abbrev pub step_of : Locals → State → List Open → Token → Option Reading
-step_of l (state.Want w) os x = turned os (staying (begin l w (depth_left os) x))
-step_of l (state.Paren w) os x = turned os (paren l w (depth_left os) x)
-step_of l (state.Call f) os x = turned os (called f x)
-step_of l (state.Have i) os x = after_part i os x
+step_of l (state.Want w) os x = turned os (turn l (depth_left os) (state.Want w) x)
+step_of l (state.Paren w) os x = turned os (turn l (depth_left os) (state.Paren w) x)
+step_of l (state.Call f) os x = turned os (turn l (depth_left os) (state.Call f) x)
+step_of l (state.Have i) [] x = None
+step_of l (state.Have i) (o ∷ os) x = turned os (after o i x)
