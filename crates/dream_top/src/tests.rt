@@ -180,18 +180,52 @@ fn decompiles_in_two_forms(rt: HostRuntime) -> Result<(), Fail> {
     Ok(())
 }
 
+// Runs the function at a range of a file for at most 100 steps, with up to three words for its start.
+fn run(
+    alloc: Global,
+    file: Vec<u8>,
+    func: &str,
+    first: &str,
+    second: &str,
+    third: &str,
+) -> Result<Ran, Fail> {
+    let mut files = files(alloc, file, Vec::new(alloc))?;
+    let out = sink(alloc)?;
+    if first.is_empty() {
+        call(alloc, &mut files, &["run", "a", func, "100"], out)
+    } else if second.is_empty() {
+        call(alloc, &mut files, &["run", "a", func, "100", first], out)
+    } else if third.is_empty() {
+        call(
+            alloc,
+            &mut files,
+            &["run", "a", func, "100", first, second],
+            out,
+        )
+    } else {
+        call(
+            alloc,
+            &mut files,
+            &["run", "a", func, "100", first, second, third],
+            out,
+        )
+    }
+}
+
 // Functions by their code: what the machine's line tells, and the C's.
 #[test]
 fn runs_beside_the_machine(rt: HostRuntime) -> Result<(), Fail> {
     let alloc = rt.alloc();
-    let cases: [(&[u8], &str, &[&str], &str); 16] = [
+    let cases: [(&[u8], &str, &str, &str, &str, &str); 16] = [
         // The absolute value of an argument.
         (
             &[
                 0x8b, 0x44, 0x24, 0x04, 0x85, 0xc0, 0x79, 0x02, 0xf7, 0xd8, 0xc3,
             ],
             "0x08048100+b",
-            &["0xfffffffb"],
+            "0xfffffffb",
+            "",
+            "",
             "returned eax=00000005 ecx=00000000 edx=00000000 ebx=00000000 esp=bfff0004 ebp=00000000 esi=00000000 edi=00000000 calls=0 changed=0\nreturned eax=00000005 ecx=00000000 edx=00000000 ebx=00000000 esp=bfff0004 ebp=00000000 esi=00000000 edi=00000000 calls=0 changed=0\n",
         ),
         (
@@ -199,7 +233,9 @@ fn runs_beside_the_machine(rt: HostRuntime) -> Result<(), Fail> {
                 0x8b, 0x44, 0x24, 0x04, 0x85, 0xc0, 0x79, 0x02, 0xf7, 0xd8, 0xc3,
             ],
             "0x08048100+b",
-            &["2147483648"],
+            "2147483648",
+            "",
+            "",
             "returned eax=80000000 ecx=00000000 edx=00000000 ebx=00000000 esp=bfff0004 ebp=00000000 esi=00000000 edi=00000000 calls=0 changed=0\nreturned eax=80000000 ecx=00000000 edx=00000000 ebx=00000000 esp=bfff0004 ebp=00000000 esi=00000000 edi=00000000 calls=0 changed=0\n",
         ),
         // The sum of 1 to 3.
@@ -208,102 +244,127 @@ fn runs_beside_the_machine(rt: HostRuntime) -> Result<(), Fail> {
                 0x31, 0xc0, 0x8b, 0x4c, 0x24, 0x04, 0x01, 0xc8, 0x49, 0x75, 0xfb, 0xc3,
             ],
             "0x08048100+c",
-            &["3"],
+            "3",
+            "",
+            "",
             "returned eax=00000006 ecx=00000000 edx=00000000 ebx=00000000 esp=bfff0004 ebp=00000000 esi=00000000 edi=00000000 calls=0 changed=0\nreturned eax=00000006 ecx=00000000 edx=00000000 ebx=00000000 esp=bfff0004 ebp=00000000 esi=00000000 edi=00000000 calls=0 changed=0\n",
         ),
         // A cycle that is entered twice.
         (
             &[0x85, 0xc0, 0x74, 0x01, 0x48, 0x49, 0x75, 0xfc, 0xc3],
             "0x08048100+9",
-            &["eax=5", "ecx=3"],
+            "eax=5",
+            "ecx=3",
+            "",
             "returned eax=00000002 ecx=00000000 edx=00000000 ebx=00000000 esp=bfff0004 ebp=00000000 esi=00000000 edi=00000000 calls=0 changed=0\nreturned eax=00000002 ecx=00000000 edx=00000000 ebx=00000000 esp=bfff0004 ebp=00000000 esi=00000000 edi=00000000 calls=0 changed=0\n",
         ),
         (
             &[0x85, 0xc0, 0x74, 0x01, 0x48, 0x49, 0x75, 0xfc, 0xc3],
             "0x08048100+9",
-            &["ecx=3"],
+            "ecx=3",
+            "",
+            "",
             "returned eax=fffffffe ecx=00000000 edx=00000000 ebx=00000000 esp=bfff0004 ebp=00000000 esi=00000000 edi=00000000 calls=0 changed=0\nreturned eax=fffffffe ecx=00000000 edx=00000000 ebx=00000000 esp=bfff0004 ebp=00000000 esi=00000000 edi=00000000 calls=0 changed=0\n",
         ),
         // An empty loop.
         (
             &[0xeb, 0xfe],
             "0x08048100+2",
-            &[],
+            "",
+            "",
+            "",
             "going calls=0\ngoing calls=0\n",
         ),
         // A quotient.
         (
             &[0x31, 0xd2, 0xf7, 0xf1, 0xc3],
             "0x08048100+5",
-            &[],
+            "",
+            "",
+            "",
             "faulted vector=0 calls=0 changed=0\nfaulted vector=0 calls=0 changed=0\n",
         ),
         (
             &[0x31, 0xd2, 0xf7, 0xf1, 0xc3],
             "0x08048100+5",
-            &["eax=100", "ecx=7"],
+            "eax=100",
+            "ecx=7",
+            "",
             "returned eax=0000000e ecx=00000007 edx=00000002 ebx=00000000 esp=bfff0004 ebp=00000000 esi=00000000 edi=00000000 calls=0 changed=0\nreturned eax=0000000e ecx=00000007 edx=00000002 ebx=00000000 esp=bfff0004 ebp=00000000 esi=00000000 edi=00000000 calls=0 changed=0\n",
         ),
         // A repeated store.
         (
             &[0xf3, 0xab, 0xc3],
             "0x08048100+3",
-            &["eax=0x01020304", "edi=0x20000000", "ecx=3"],
+            "eax=0x01020304",
+            "edi=0x20000000",
+            "ecx=3",
             "returned eax=01020304 ecx=00000000 edx=00000000 ebx=00000000 esp=bfff0004 ebp=00000000 esi=00000000 edi=2000000c calls=0 changed=12\nreturned eax=01020304 ecx=00000000 edx=00000000 ebx=00000000 esp=bfff0004 ebp=00000000 esi=00000000 edi=2000000c calls=0 changed=12\n",
         ),
         (
             &[0xf3, 0xab, 0xc3],
             "0x08048100+3",
-            &["eax=0x01020304", "edi=0x20000000"],
+            "eax=0x01020304",
+            "edi=0x20000000",
+            "",
             "returned eax=01020304 ecx=00000000 edx=00000000 ebx=00000000 esp=bfff0004 ebp=00000000 esi=00000000 edi=20000000 calls=0 changed=0\nreturned eax=01020304 ecx=00000000 edx=00000000 ebx=00000000 esp=bfff0004 ebp=00000000 esi=00000000 edi=20000000 calls=0 changed=0\n",
         ),
         // Calls.
         (
             &[0xe8, 0xfb, 0xff, 0xff, 0xff, 0xc3],
             "0x08048100+6",
-            &[],
+            "",
+            "",
+            "",
             "asking target=08048100 calls=1\nasking target=08048100 calls=1\n",
         ),
         (
             &[0xff, 0x25, 0x0c, 0xa0, 0x04, 0x08],
             "0x08048100+6",
-            &[],
+            "",
+            "",
+            "",
             "asking target=00000000 calls=1\nasking target=00000000 calls=1\n",
         ),
         // A return past a pushed word: the machine strays, and the C returns.
         (
             &[0x50, 0xc3],
             "0x08048100+2",
-            &[],
+            "",
+            "",
+            "",
             "strayed\nreturned eax=00000000 ecx=00000000 edx=00000000 ebx=00000000 esp=bfff0000 ebp=00000000 esi=00000000 edi=00000000 calls=0 changed=0\n",
         ),
         // The carry is kept.
         (
             &[0xf9, 0x40, 0x83, 0xd1, 0x00, 0xc3],
             "0x08048100+6",
-            &[],
+            "",
+            "",
+            "",
             "returned eax=00000001 ecx=00000001 edx=00000000 ebx=00000000 esp=bfff0004 ebp=00000000 esi=00000000 edi=00000000 calls=0 changed=0\nreturned eax=00000001 ecx=00000001 edx=00000000 ebx=00000000 esp=bfff0004 ebp=00000000 esi=00000000 edi=00000000 calls=0 changed=0\n",
         ),
         // A masked count.
         (
             &[0xd3, 0xe0, 0xc3],
             "0x08048100+3",
-            &["eax=1", "ecx=32"],
+            "eax=1",
+            "ecx=32",
+            "",
             "returned eax=00000001 ecx=00000020 edx=00000000 ebx=00000000 esp=bfff0004 ebp=00000000 esi=00000000 edi=00000000 calls=0 changed=0\nreturned eax=00000001 ecx=00000020 edx=00000000 ebx=00000000 esp=bfff0004 ebp=00000000 esi=00000000 edi=00000000 calls=0 changed=0\n",
         ),
         // An undefined flag is read.
         (
             &[0x0f, 0xaf, 0xc1, 0x74, 0x00, 0xc3],
             "0x08048100+6",
-            &[],
+            "",
+            "",
+            "",
             "strayed\nreturned eax=00000000 ecx=00000000 edx=00000000 ebx=00000000 esp=bfff0004 ebp=00000000 esi=00000000 edi=00000000 calls=0 changed=0\n",
         ),
     ];
-    for (code, func, given, text) in cases {
-        let mut words = vec![in alloc; "run", "a", func, "100"]?;
-        words.extend_from_slice(given)?;
-        let mut files = files(alloc, elf(alloc, code)?, Vec::new(alloc))?;
-        let ran = call(alloc, &mut files, &words, sink(alloc)?)?;
+    for (code, func, first, second, third, text) in cases {
+        let ran = run(alloc, elf(alloc, code)?, func, first, second, third)?;
         assert!(rt; ran.status == Status::Done, "{func}");
         assert_eq!(rt; ran.out.bytes(), text.as_bytes(), "{func}");
         assert_eq!(rt; ran.notes.bytes().len(), 0, "{func}");
