@@ -1,0 +1,5 @@
+mod EndedNames
+mod Rows
+mod SectionFacts
+mod FoundRanges
+mod LastZeros

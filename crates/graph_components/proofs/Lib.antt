@@ -1,0 +1,12 @@
+mod Walks
+mod Names
+mod Marked
+mod Reached
+mod Places
+mod Dives
+mod Leaving
+mod Spreads
+mod Naming
+mod Preds
+mod Grouped
+mod Parted

@@ -1,0 +1,4 @@
+pub mod Marks
+pub mod Finish
+pub mod Classes
+pub mod Listed

@@ -1,0 +1,5 @@
+pub mod Fitting
+pub mod Beginning
+pub mod Turning
+pub mod Steps
+pub mod Ends

@@ -1,0 +1,4 @@
+mod Digits
+mod Loaded
+mod Stored
+mod Said

@@ -1,0 +1,5 @@
+pub mod Numbers
+pub mod StartWords
+pub mod Starts
+pub mod Lines
+pub mod Laws
