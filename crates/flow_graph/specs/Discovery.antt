@@ -4,12 +4,9 @@ use Rattle.std.specs.List.{list_any, position_or_len, concat, AllZip}
 use Rattle.elf_image.specs.declared.image.Segment.{Segment}
 use Rattle.elf_image.specs.declared.range.Range.{Range}
 use Rattle.elf_image.specs.Range.{is_inside, bytes_to_end}
-use Rattle.x86_inst.specs.declared.Inst.{Inst}
 use Rattle.x86_decode.specs.Decodes.{NoneBegins}
-use Rattle.x86_model.specs.Successors.{successors_of}
-use Rattle.machine.specs.Code.{BeginsAt}
 use Rattle.graph_order.specs.Graph.{Digraph}
-use Rattle.flow_graph.specs.Reach.{Reaches, next_of}
+use Rattle.flow_graph.specs.Reach.{AreSuccessors, Reaches}
 
 -- a list with an address, which goes last unless it is there
 abbrev pub with_new : List ℕ → ℕ → List ℕ
@@ -19,10 +16,10 @@ with_new places a = if list_any (nat_eq a) places then places else places ++ a �
 abbrev pub firsts : List ℕ → List ℕ
 firsts = fold with_new []
 
--- The successors of an address that are inside, in order: those of the instruction that begins there,
+-- The successors of an address that are inside, in order: those of the window or the instruction that begins there,
 -- and none where none begins.
 pub data HasSuccessors (m : List Segment) (r : Range) (a : ℕ) (list : List ℕ) : Type 0 where
-  begins : (i : Inst) (n : ℕ) → BeginsAt m r a i n → list ≡ filter (is_inside r) (successors_of i a (next_of a n)) → HasSuccessors m r a list
+  begins : (all : List ℕ) → AreSuccessors m r a all → list ≡ filter (is_inside r) all → HasSuccessors m r a list
   none : NoneBegins (bytes_to_end m r a) → list ≡ [] → HasSuccessors m r a list
 
 -- the number of a place in a list

@@ -3,12 +3,9 @@ use Rattle.std.specs.Prelude.{◌≡◌, ℕ, List, [], map, filter, slice_get, 
 use Rattle.elf_image.specs.declared.image.Segment.{Segment}
 use Rattle.elf_image.specs.declared.range.Range.{Range}
 use Rattle.elf_image.specs.Range.{is_inside}
-use Rattle.x86_inst.specs.declared.Inst.{Inst}
-use Rattle.x86_model.specs.Successors.{successors_of}
-use Rattle.machine.specs.Code.{BeginsAt}
 use Rattle.graph_order.specs.Graph.{Digraph}
 use Rattle.flow_graph.specs.declared.place.Place.{Place}
-use Rattle.flow_graph.specs.Reach.{next_of}
+use Rattle.flow_graph.specs.Reach.{AreSuccessors}
 use Rattle.flow_graph.specs.Place.{NamedPlace, HasNoPlace}
 use Rattle.flow_graph.specs.Discovery.{IsDiscovered, number_in}
 
@@ -21,12 +18,12 @@ abbrev pub OneDiscovery : Type 0
 OneDiscovery = (m : List Segment) (r : Range) (places others : List ℕ) (g h : Digraph) → IsDiscovered m r places g → IsDiscovered m r others h
     → (places ≡ others) × (g ≡ h)
 
--- an instruction begins at the k-th place, and the list of node k has the numbers of its successors inside, in order
+-- a window or an instruction begins at the k-th place, and the list of node k has the numbers of its successors inside, in
+-- order
 pub record IsNode (m : List Segment) (r : Range) (places : List ℕ) (g : Digraph) (k a : ℕ) : Type 0 where
-  pub i : Inst
-  pub n : ℕ
-  pub begins : BeginsAt m r a i n
-  pub list : slice_index_or g.succ k [] ≡ map (number_in places) (filter (is_inside r) (successors_of i a (next_of a n)))
+  pub all : List ℕ
+  pub leads : AreSuccessors m r a all
+  pub list : slice_index_or g.succ k [] ≡ map (number_in places) (filter (is_inside r) all)
 
 -- Where no place is named, the first place is the entry, and each node is that of its place.
 abbrev pub NodesAreTheirPlaces : Type 0

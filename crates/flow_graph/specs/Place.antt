@@ -10,7 +10,8 @@ use Rattle.x86_inst.specs.declared.Inst.TheVariants as i
 use Rattle.x86_decode.specs.Decodes.{NoneBegins, IsBegun}
 use Rattle.x86_model.specs.Rows.{is_bare}
 use Rattle.machine.specs.Code.{BeginsAt}
-use Rattle.flow_graph.specs.Reach.{Reaches, next_of}
+use Rattle.jump_tables.specs.Window.{next_of}
+use Rattle.flow_graph.specs.Reach.{Reaches}
 use Rattle.flow_graph.specs.declared.place.Place.{Place}
 use Rattle.flow_graph.specs.declared.place.Cause.{Cause}
 use Rattle.flow_graph.specs.declared.place.Cause.TheVariants as cause
@@ -59,7 +60,8 @@ range_place m r =
 
 -- ---- the causes at a reached address
 
--- a jump by a word begins there that isn't through a bare absolute address
+-- A jump by a word begins there that isn't through a bare absolute address. One at the end of a window isn't reached through
+-- it.
 pub record HasIndirectJump (m : List Segment) (r : Range) (a : ℕ) : Type 0 where
   pub s : Operand
   pub n : ℕ

@@ -32,7 +32,7 @@ use Rattle.micro_ir.specs.Run.{Arrive, enter, left_by}
 use Rattle.micro_ir.specs.World.{IsWorld}
 use Rattle.lift_parts.specs.Stands.{Stands, state_in}
 use Rattle.lift_parts.specs.Lifted.{block_count, through, Matches, Stays}
-use Rattle.range_flow.specs.declared.piece.FlowPiece.{FlowPiece}
+use Rattle.flow_pieces.specs.declared.piece.FlowPiece.{FlowPiece}
 use Rattle.range_flow.specs.Pieces.{IsPieceOf, IsLeaveTo, leave_block}
 use Rattle.range_flow.specs.Plan.{Follows, IsCovered}
 use Rattle.range_flow.proofs.Beginning.{decoded_is}

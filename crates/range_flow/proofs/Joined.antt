@@ -18,7 +18,7 @@ use Rattle.micro_ir.specs.Laws.{moved_case, moved_end}
 use Rattle.micro_ir.specs.Rule.{has_flow_names, is_flow_word, have_words, is_flow_end, are_flow_stmts, is_flow_block, are_flow_blocks, nodes_in}
 use Rattle.micro_ir.proofs.Values.{both_true, names_layer}
 use Rattle.lift_parts.proofs.Fit.{both_hold}
-use Rattle.range_flow.specs.declared.piece.FlowPiece.{FlowPiece}
+use Rattle.flow_pieces.specs.declared.piece.FlowPiece.{FlowPiece}
 use Rattle.range_flow.specs.Pieces.{leave_block, first_node, node_of, flow_node, moved_block, blocks_from}
 use Rattle.range_flow.proofs.Members.{below_true, below_false, contains_here, contains_later, mapped}
 use Rattle.range_flow.proofs.Numbering.{piece_at}

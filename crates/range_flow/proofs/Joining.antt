@@ -5,7 +5,7 @@ use Rattle.std.specs.HashMap.{get}
 use Rattle.std.proofs.lemmas.Bool.Decides.{nat_tests}
 use Rattle.std.proofs.lemmas.List.{length-map}
 use Rattle.micro_ir.specs.declared.flow.Block.{Block}
-use Rattle.range_flow.specs.declared.piece.FlowPiece.{FlowPiece}
+use Rattle.flow_pieces.specs.declared.piece.FlowPiece.{FlowPiece}
 use Rattle.range_flow.specs.declared.lifted.Lifted.{Lifted}
 use Rattle.range_flow.specs.declared.first_nodes.FirstNodes.{FirstNodes}
 use Rattle.range_flow.specs.Pieces.{first_node, node_of, flow_node, moved_block, blocks_from, flow_blocks}

@@ -9,7 +9,7 @@ use Rattle.micro_ir.specs.declared.flow.Block.{Block}
 use Rattle.micro_ir.specs.Run.{enter}
 use Rattle.micro_ir.specs.Laws.{relocate}
 use Rattle.micro_ir.proofs.Moves.{blocks_move}
-use Rattle.range_flow.specs.declared.piece.FlowPiece.{FlowPiece}
+use Rattle.flow_pieces.specs.declared.piece.FlowPiece.{FlowPiece}
 use Rattle.range_flow.specs.Pieces.{addresses_of, first_node, node_of, flow_node, moved_block, blocks_from, flow_blocks}
 use Rattle.range_flow.proofs.Members.{below_true, below_false, equal_of, itself, contains_here, contains_later, contains_cases, none_in, get_below, get_left, get_right}
 

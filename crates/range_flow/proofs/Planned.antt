@@ -24,7 +24,7 @@ use Rattle.micro_ir.specs.World.{IsWorld}
 use Rattle.micro_ir.proofs.Worlds.{start_is}
 use Rattle.lift_parts.specs.Stands.{StandsFor}
 use Rattle.lift_parts.specs.Lifted.{through, Matches, Stays}
-use Rattle.range_flow.specs.declared.piece.FlowPiece.{FlowPiece}
+use Rattle.flow_pieces.specs.declared.piece.FlowPiece.{FlowPiece}
 use Rattle.range_flow.specs.Pieces.{addresses_of, first_node, flow_node, flow_blocks}
 use Rattle.range_flow.specs.Plan.{HasFrozen, Follows, IsCovered, IsPlan}
 use Rattle.range_flow.specs.Laws.{PlannedFlowsAgree}

@@ -11,7 +11,7 @@ use Rattle.x86_inst.specs.declared.Inst.{Inst}
 use Rattle.machine.specs.Code.{Decodes}
 use Rattle.machine.specs.Run.{scene_of}
 use Rattle.micro_ir.specs.declared.flow.Flow.{Flow}
-use Rattle.range_flow.specs.declared.piece.FlowPiece.{FlowPiece}
+use Rattle.flow_pieces.specs.declared.piece.FlowPiece.{FlowPiece}
 use Rattle.range_flow.specs.Pieces.{IsPieceOf, IsLeaveTo, addresses_of}
 use Rattle.range_flow.specs.Flow.{AreCovering, IsFlowOf}
 use Rattle.range_flow.specs.Plan.{IsCovered, IsPlan}

@@ -1,14 +1,12 @@
 -- When a flow is that of a range.
-use Rattle.std.specs.Prelude.{◌≡◌, ℕ, ◌+◌, ◌%◌, ◌^◌, true, false, nat_eq, List, ◌++◌, slice_get, Some, All, Contains}
+use Rattle.std.specs.Prelude.{◌≡◌, ℕ, true, false, nat_eq, List, ◌++◌, slice_get, Some, All, Contains}
 use Rattle.std.specs.List.{IsDistinct}
 use Rattle.elf_image.specs.declared.image.Segment.{Segment}
 use Rattle.elf_image.specs.declared.range.Range.{Range}
 use Rattle.elf_image.specs.Range.{is_inside}
-use Rattle.x86_inst.specs.declared.Inst.{Inst}
-use Rattle.x86_model.specs.Successors.{successors_of}
-use Rattle.machine.specs.Code.{BeginsAt}
 use Rattle.micro_ir.specs.declared.flow.Flow.{Flow}
-use Rattle.range_flow.specs.declared.piece.FlowPiece.{FlowPiece}
+use Rattle.flow_graph.specs.Reach.{AreSuccessors}
+use Rattle.flow_pieces.specs.declared.piece.FlowPiece.{FlowPiece}
 use Rattle.range_flow.specs.Pieces.{IsPieceOf, IsLeaveTo, addresses_of, flow_blocks}
 
 -- Places cover a range: the entry is the first of them, they are inside, and so are they closed under successors within
@@ -16,8 +14,7 @@ use Rattle.range_flow.specs.Pieces.{IsPieceOf, IsLeaveTo, addresses_of, flow_blo
 pub record AreCovering (m : List Segment) (r : Range) (places : List ℕ) : Type 0 where
   pub entry : slice_get places 0 ≡ Some r.entry
   pub inside : (a : ℕ) → Contains places a → is_inside r a ≡ true
-  pub closed : (a b : ℕ) (i : Inst) (n : ℕ) → Contains places a → BeginsAt m r a i n
-      → Contains (successors_of i a ((a + n) % 2 ^ 32)) b → is_inside r b ≡ true → Contains places b
+  pub closed : (a b : ℕ) (list : List ℕ) → Contains places a → AreSuccessors m r a list → Contains list b → is_inside r b ≡ true → Contains places b
 
 -- an address outside the range that a piece leads to
 abbrev pub IsOutsideOf : Range → List FlowPiece → ℕ → Type 0

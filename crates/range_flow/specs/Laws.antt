@@ -16,7 +16,7 @@ use Rattle.micro_ir.specs.Counts.{stores_of, calls_of}
 use Rattle.graph_order.specs.Graph.{Digraph}
 use Rattle.flow_graph.specs.Place.{HasNoPlace}
 use Rattle.flow_graph.specs.Discovery.{IsDiscovered}
-use Rattle.range_flow.specs.declared.piece.FlowPiece.{FlowPiece}
+use Rattle.flow_pieces.specs.declared.piece.FlowPiece.{FlowPiece}
 use Rattle.range_flow.specs.Pieces.{flow_blocks}
 use Rattle.range_flow.specs.Flow.{AreCovering, IsFlowOf}
 use Rattle.range_flow.specs.Plan.{IsPlan}

@@ -5,7 +5,7 @@ use Rattle.std.specs.List.{list_any}
 use Rattle.elf_image.specs.declared.range.Range.{Range}
 use Rattle.elf_image.specs.Range.{is_inside}
 use Rattle.micro_ir.specs.declared.flow.Block.{Block}
-use Rattle.range_flow.specs.declared.piece.FlowPiece.{FlowPiece}
+use Rattle.flow_pieces.specs.declared.piece.FlowPiece.{FlowPiece}
 use Rattle.range_flow.specs.declared.lifted.Lifted.{Lifted}
 use Rattle.range_flow.specs.declared.first_nodes.FirstNodes.{FirstNodes}
 use Rattle.range_flow.specs.declared.nodes.Nodes.{Nodes}

@@ -10,17 +10,33 @@ use Rattle.micro_ir.specs.declared.flow.Block.{Block}
 use Rattle.micro_ir.specs.declared.flow.End.TheVariants as end
 use Rattle.micro_ir.specs.Laws.{moved_end}
 use Rattle.lift_parts.specs.Lifted.{AreBlocksOf}
-use Rattle.range_flow.specs.declared.piece.FlowPiece.{FlowPiece}
+use Rattle.jump_tables.specs.declared.table.TableWindow.{TableWindow}
+use Rattle.jump_tables.specs.Window.{IsWindow, HasNoWindow, window_successors}
+use Rattle.lift_window.specs.Window.{AreWindowBlocks}
+use Rattle.flow_pieces.specs.declared.piece.FlowPiece.{FlowPiece}
 
 -- ---- a piece
 
--- The piece of an address at which an instruction begins: its blocks and its successors are the instruction's.
-pub record IsPieceOf (m : List Segment) (r : Range) (p : FlowPiece) : Type 0 where
+-- The piece of an address at which an instruction begins, and no window: its blocks and its successors are the instruction's.
+pub record IsInstructionPiece (m : List Segment) (r : Range) (p : FlowPiece) : Type 0 where
   pub inst : Inst
   pub size : ℕ
   pub begins : BeginsAt m r p.at inst size
+  pub no_window : HasNoWindow m r p.at
   pub successors : p.successors ≡ successors_of inst p.at ((p.at + size) % 2 ^ 32)
   pub blocks : AreBlocksOf inst p.at ((p.at + size) % 2 ^ 32) p.blocks
+
+-- The piece of an address at which a window stands: its blocks and its successors are the window's.
+pub record IsWindowPiece (m : List Segment) (r : Range) (p : FlowPiece) : Type 0 where
+  pub window : TableWindow
+  pub stands : IsWindow m r p.at window
+  pub successors : p.successors ≡ window_successors m window
+  pub blocks : AreWindowBlocks m r p.at window p.blocks
+
+-- the piece of an address
+pub data IsPieceOf (m : List Segment) (r : Range) (p : FlowPiece) : Type 0 where
+  of_instruction : IsInstructionPiece m r p → IsPieceOf m r p
+  of_window : IsWindowPiece m r p → IsPieceOf m r p
 
 -- the block that leaves for an address
 abbrev pub leave_block : ℕ → Block

@@ -10,7 +10,6 @@ mod laws;
 mod lifted;
 mod nodes;
 mod outside;
-mod piece;
 mod places;
 mod successors;
 #[cfg(test)]
@@ -18,4 +17,3 @@ mod tests;
 
 pub use discovered::flow_of;
 pub use laws::{discovered_cover, flow_counts, flow_is_given, flows_agree, planned_flows_agree};
-pub use piece::FlowPiece;

@@ -1,0 +1,10 @@
+//! Jump tables: where a compiler's switch stands in the code of a range, as its spelling shows.
+//! Given are an image, a range and an address. Promised is the window that stands there, with its default and its
+//! table, or None exactly where none does.
+#![tactic(auto)]
+
+mod forms;
+mod table;
+
+pub use forms::Form;
+pub use table::TableWindow;
