@@ -101,3 +101,13 @@ targets_of m w (suc n) = targets_of m w n ++ target_of m w n ∷ []
 -- the successors of a window: its default, and then the target of each entry
 abbrev pub window_successors : List Segment → TableWindow → List ℕ
 window_successors m w = w.default ∷ targets_of m w w.count
+
+-- the window that stands at an address; None exactly where none does
+abbrev pub IsWindowAt : List Segment → Range → ℕ → Option TableWindow → Type 0
+IsWindowAt m r a (Some w) = IsWindow m r a w
+IsWindowAt m r a None = HasNoWindow m r a
+
+-- the instruction that begins at an address, with its length; None exactly where none begins
+abbrev pub IsInstAt : List Segment → Range → ℕ → Option (Inst × ℕ) → Type 0
+IsInstAt m r a (Some d) = BeginsAt m r a d.0 d.1
+IsInstAt m r a None = (inst : Inst) (n : ℕ) → BeginsAt m r a inst n → ⊥
