@@ -1,4 +1,4 @@
--- The flow of a range has as many stores and calls as its instructions have, and a call for each address outside.
+-- The flow of a range has as many stores and calls as the instructions at its places have, and a call for each address outside.
 use Rattle.std.proofs.Common.{◌≡◌, ℕ, ◌+◌, ◌%◌, ◌^◌, Bool, true, false, cond, List, [], ◌∷◌, ◌++◌, length, map, refl, sym, ap, ◌∙◌, subst, arith}
 use Rattle.std.specs.Prelude.{Contains}
 use Rattle.std.specs.List.{AllZip, count_by}
@@ -8,8 +8,7 @@ use Rattle.std.proofs.lemmas.List.Recursion.{is_count_by}
 use Rattle.elf_image.specs.declared.image.Segment.{Segment}
 use Rattle.elf_image.specs.declared.range.Range.{Range}
 use Rattle.x86_inst.specs.declared.Inst.{Inst}
-use Rattle.x86_model.specs.Successors.{successors_of, stores as is_store, asks as is_ask}
-use Rattle.machine.specs.Code.{BeginsAt}
+use Rattle.x86_model.specs.Successors.{stores as is_store, asks as is_ask}
 use Rattle.micro_ir.specs.declared.flow.Block.{Block}
 use Rattle.micro_ir.specs.declared.flow.Flow.{Flow}
 use Rattle.micro_ir.specs.declared.flow.End.{End as BlockEnd}
@@ -17,12 +16,14 @@ use Rattle.micro_ir.specs.declared.flow.End.TheVariants as end
 use Rattle.micro_ir.specs.Laws.{moved_end}
 use Rattle.micro_ir.specs.Counts.{stores_of_stmts, stores_of, calls_of_end, calls_of}
 use Rattle.lift_parts.specs.Lifted.{once}
-use Rattle.flow_graph.proofs.OnePlaces.{one_at}
+use Rattle.flow_graph.specs.Reach.{AreSuccessors}
+use Rattle.flow_graph.proofs.OnePlaces.{one_list}
 use Rattle.flow_pieces.specs.declared.piece.FlowPiece.{FlowPiece}
 use Rattle.range_flow.specs.Pieces.{IsPieceOf, IsLeaveTo, addresses_of, flow_node, moved_block, blocks_from}
 use Rattle.range_flow.specs.Flow.{IsFlowOf}
 use Rattle.range_flow.specs.Counts.{StandsAt, IsNextOutside}
 use Rattle.range_flow.specs.Laws.{FlowCounts}
+use Rattle.range_flow.proofs.Standing.{leads, Does, does}
 use Rattle.range_flow.proofs.Members.{contains_here, contains_later, contains_mapped, mapped}
 
 -- ---- of the blocks of pieces
@@ -76,7 +77,7 @@ calls_joined all s [] = refl
 calls_joined all s (p ∷ ps) =
     omega (arith, calls-append (map (moved_block (flow_node all s p)) p.blocks) (blocks_from all (s + length p.blocks) ps), calls_moved (flow_node all s p) p.blocks, calls_joined all (s + length p.blocks) ps)
 
--- ---- of the pieces of instructions
+-- ---- of the pieces of places
 
 abbrev number_of : (Inst → Bool) → List Inst → ℕ
 number_of p [] = 0
@@ -96,14 +97,12 @@ module _ (m : List Segment) (r : Range) where
   counted : (ps : List FlowPiece) → ((p : FlowPiece) → Contains ps p → IsPieceOf m r p) → Counted ps
   counted [] h = ([], tt, refl, refl)
   counted (p ∷ ps) h =
-      let i = h p (contains_here p ps) in
-      let rest = counted ps (λ q g. h q (contains_later p q ps g)) in
-      let stores : stores_of p.blocks ≡ once (is_store i.inst) = i.blocks.stores in
-      let calls : calls_of p.blocks ≡ once (is_ask i.inst) = i.blocks.calls in (
+      let i : Does m r p = does m r p (h p (contains_here p ps)) in
+      let rest = counted ps (λ q g. h q (contains_later p q ps g)) in (
         i.inst ∷ rest.0,
-        (record { size = i.size; begins = i.begins }, rest.1),
-        ap (λ n. n + store_total ps) stores ∙ ap (λ n. once (is_store i.inst) + n) rest.2 ∙ one_more (is_store i.inst) (number_of is_store rest.0),
-        ap (λ n. n + call_total ps) calls ∙ ap (λ n. once (is_ask i.inst) + n) rest.3 ∙ one_more (is_ask i.inst) (number_of is_ask rest.0),
+        (i.stands, rest.1),
+        ap (λ n. n + store_total ps) i.stores ∙ ap (λ n. once (is_store i.inst) + n) rest.2 ∙ one_more (is_store i.inst) (number_of is_store rest.0),
+        ap (λ n. n + call_total ps) i.calls ∙ ap (λ n. once (is_ask i.inst) + n) rest.3 ∙ one_more (is_ask i.inst) (number_of is_ask rest.0),
       )
 
 -- ---- of the pieces of addresses outside
@@ -118,39 +117,31 @@ leaves_counted (p ∷ ps) h =
 -- ---- the flow
 
 module _ (m : List Segment) (r : Range) (places : List ℕ) (f : Flow) (is : IsFlowOf m r places f) where
-  instruction : (p : FlowPiece) → Contains is.inner p → IsPieceOf m r p
-  instruction p h = All-contains (IsPieceOf m r) is.inner p is.instructions h
+  piece : (p : FlowPiece) → Contains is.inner p → IsPieceOf m r p
+  piece p h = All-contains (IsPieceOf m r) is.inner p is.instructions h
 
   next_outside : (a : ℕ) → Contains (addresses_of is.outer) a → IsNextOutside m r places a
   next_outside a h =
       let o = is.outside a h in
-      let i = instruction o.1 o.2 in
       record {
         away = o.0;
         place = o.1.at;
-        inst = i.inst;
-        size = i.size;
         listed = subst (λ l. Contains l o.1.at) is.at_places (contains_mapped (λ q. q.at) is.inner o.1 o.2);
-        begins = i.begins;
-        leads = subst (λ l. Contains l a) i.successors o.3;
+        list = o.1.successors;
+        leads = leads m r o.1 (piece o.1 o.2);
+        has = o.3;
       }
 
   has_piece : (a : ℕ) → IsNextOutside m r places a → Contains (addresses_of is.outer) a
   has_piece a o =
       let q = mapped (λ q. q.at) is.inner o.place (subst (λ l. Contains l o.place) (sym is.at_places) o.listed) in
-      let i = instruction q.0 q.1 in
-      let same = one_at m r q.0.at o.inst i.inst o.size i.size (subst (λ b. BeginsAt m r b o.inst o.size) (sym q.2) o.begins) i.begins in
-      let list : successors_of o.inst o.place ((o.place + o.size) % 2 ^ 32) ≡ q.0.successors =
-      ap (λ b. successors_of o.inst b ((b + o.size) % 2 ^ 32)) (sym q.2)
-      ∙ ap (λ n. successors_of o.inst q.0.at ((q.0.at + n) % 2 ^ 32)) same.0
-      ∙ ap (λ x. successors_of x q.0.at ((q.0.at + i.size) % 2 ^ 32)) same.1
-      ∙ sym i.successors in
-      is.complete a (o.away, q.0, q.1, subst (λ l. Contains l a) list o.leads)
+      let same : o.list ≡ q.0.successors = one_list m r q.0.at o.list q.0.successors (subst (λ b. AreSuccessors m r b o.list) (sym q.2) o.leads) (leads m r q.0 (piece q.0 q.1)) in
+      is.complete a (o.away, q.0, q.1, subst (λ l. Contains l a) same o.has)
 
 pub flow_counts : FlowCounts
 flow_counts m r places f is =
     let ps = is.inner ++ is.outer in
-    let c = counted m r is.inner (instruction m r places f is) in
+    let c = counted m r is.inner (piece m r places f is) in
     let l = leaves_counted is.outer (λ p h. All-contains IsLeaveTo is.outer p is.leaves h) in
     let stores : stores_of f.blocks ≡ store_total ps = ap stores_of is.blocks ∙ stores_joined ps 0 ps in
     let calls : calls_of f.blocks ≡ call_total ps = ap calls_of is.blocks ∙ calls_joined ps 0 ps in

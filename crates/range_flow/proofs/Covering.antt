@@ -33,8 +33,9 @@ use Rattle.micro_ir.specs.World.{IsWorld}
 use Rattle.lift_parts.specs.Stands.{Stands, state_in}
 use Rattle.lift_parts.specs.Lifted.{block_count, through, Matches, Stays}
 use Rattle.flow_pieces.specs.declared.piece.FlowPiece.{FlowPiece}
-use Rattle.range_flow.specs.Pieces.{IsPieceOf, IsLeaveTo, leave_block}
-use Rattle.range_flow.specs.Plan.{Follows, IsCovered}
+use Rattle.flow_pieces.specs.Covered.{Follows, IsCovered}
+use Rattle.range_flow.specs.Pieces as pieces
+use Rattle.range_flow.specs.Pieces.{IsInstructionPiece, IsPieceOf, IsLeaveTo, leave_block}
 use Rattle.range_flow.proofs.Beginning.{decoded_is}
 
 -- the tests of strays change nothing of what is matched
@@ -100,7 +101,7 @@ module _ (m : List Segment) (r : Range) (decoded : ℕ → Option (Inst × ℕ))
   abbrev sc : Scene
   sc = scene_of m r decoded start
 
-  module _ (p : FlowPiece) (inside : is_inside r p.at ≡ true) (h : IsPieceOf m r p) where
+  module _ (p : FlowPiece) (inside : is_inside r p.at ≡ true) (h : IsInstructionPiece m r p) where
     abbrev next : ℕ
     next = (p.at + h.size) % 2 ^ 32
 
@@ -125,6 +126,13 @@ module _ (m : List Segment) (r : Range) (decoded : ℕ → Option (Inst × ℕ))
 
     pub instruction_covered : IsCovered sc p
     instruction_covered = covered_by sc p (subst (λ c. 0 < c) (sym h.blocks.count) (some_block h.inst)) piece_effect piece_steady
+
+-- the piece of a place is covered
+pub place_covered : (m : List Segment) (r : Range) (decoded : ℕ → Option (Inst × ℕ)) → Decodes m r decoded → (start : Start) (p : FlowPiece) → is_inside r p.at ≡ true
+    → IsPieceOf m r p → IsCovered (scene_of m r decoded start) p
+place_covered m r decoded d start p inside (pieces.of_instruction h) = instruction_covered m r decoded d start p inside h
+place_covered m r decoded d start p inside (pieces.of_window h) =
+    subst (λ l. IsCovered (scene_of m r decoded start) (record { at = p.at; blocks = p.blocks; successors = l })) (sym h.successors) (h.blocks.covered decoded start d)
 
 -- ---- the piece of an address outside
 

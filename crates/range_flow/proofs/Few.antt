@@ -1,6 +1,8 @@
--- An instruction has few blocks, successors and named nodes, and its successors are addresses.
-use Rattle.std.proofs.Common.{◌≡◌, ◌⊎◌, inl, inr, ℕ, ◌^◌, ◌<◌, ◌≤◌, Bool, true, false, if◌then◌else◌, List, [], ◌∷◌, ◌++◌, length, refl, sym, subst, arith, length-append}
-use Rattle.std.specs.Prelude.{Contains, MatchBool}
+-- An instruction, and a window, have few blocks, successors and named nodes.
+use Rattle.std.proofs.Common.{◌≡◌, ◌⊎◌, inl, inr, ℕ, zero, suc, ◌+◌, ◌≤◌, Bool, true, false, if◌then◌else◌, List, [], ◌∷◌, ◌++◌, length, refl, sym, ap, ◌∙◌, subst, arith, length-append}
+use Rattle.std.specs.Prelude.{MatchBool}
+use Rattle.std.proofs.lemmas.List.{length-map}
+use Rattle.elf_image.specs.declared.image.Segment.{Segment}
 use Rattle.x86_inst.specs.declared.Inst.{Inst}
 use Rattle.x86_inst.specs.declared.Inst.TheVariants as i
 use Rattle.x86_inst.specs.declared.Rep.{Rep}
@@ -13,7 +15,9 @@ use Rattle.micro_ir.specs.declared.flow.End.TheVariants as end
 use Rattle.micro_ir.specs.Checked.{nodes_of}
 use Rattle.micro_ir.specs.Rule.{nodes_in}
 use Rattle.lift_parts.specs.Lifted.{block_count, IsBranch, IsPlain, OneEnds, TwoEnd, EndsRound, EndAs}
-use Rattle.range_flow.proofs.Members.{contains_cases, none_in}
+use Rattle.jump_tables.specs.declared.table.TableWindow.{TableWindow}
+use Rattle.jump_tables.specs.Window.{target_of, targets_of, window_successors}
+use Rattle.lift_window.specs.Window.{entry_cases, EndsFirst, EndsSecond, EndAsWindow}
 
 -- ---- nodes
 
@@ -81,32 +85,35 @@ pub few_successors : (x : Inst) (at next : ℕ) → length (successors_of x at n
 few_successors (i.Str op size r s) at next = either_few (repeats r) at next
 few_successors x at next = omega arith
 
--- each is a word, or the address itself
-abbrev AreSmall : ℕ → List ℕ → Type 0
-AreSmall at [] = Unit {0}
-AreSmall at (b ∷ bs) = ((b < 2 ^ 32) ⊎ (b ≡ at)) × AreSmall at bs
+-- ---- of a window
 
-either_small : (t : Bool) (at next : ℕ) → next < 2 ^ 32 → AreSmall at (if t then at ∷ next ∷ [] else next ∷ [])
-either_small true at next h = (inr refl, (inl h, tt))
-either_small false at next h = (inl h, tt)
+cases_count : (n : ℕ) → length (entry_cases n) ≡ n
+cases_count zero = refl
+cases_count (suc n) = omega (arith, length-append (entry_cases n) (record { value = n; to = 3 + n } ∷ []), cases_count n)
 
-are_small : (x : Inst) (at next : ℕ) → next < 2 ^ 32 → AreSmall at (successors_of x at next)
-are_small (i.Jcc c d) at next h = (inl (omega arith), (inl h, tt))
-are_small (i.Loop d) at next h = (inl (omega arith), (inl h, tt))
-are_small (i.Jecxz d) at next h = (inl (omega arith), (inl h, tt))
-are_small (i.Jmp d) at next h = (inl (omega arith), tt)
-are_small (i.JmpTo s) at next h = tt
-are_small (i.Ret n) at next h = tt
-are_small (i.Trap v) at next h = tt
-are_small (i.Str op size r s) at next h = either_small (repeats r) at next h
-are_small x at next h = (inl h, tt)
+first_few : (e : BlockEnd) → EndsFirst e → length (nodes_of e) ≤ 2
+first_few e (inl h) = branch_few 2 1 e h
+first_few e (inr h) = branch_few 1 2 e h
 
-small_of : (at : ℕ) (bs : List ℕ) (b : ℕ) → AreSmall at bs → Contains bs b → (b < 2 ^ 32) ⊎ (b ≡ at)
-small_of at [] b s h = absurd (none_in b h)
-small_of at (c ∷ bs) b s h = elim (contains_cases c b bs h) [
-  | inl e ↦ subst (λ x. (x < 2 ^ 32) ⊎ (x ≡ at)) e s.0
-  | inr g ↦ small_of at bs b s.1 g
-]
+second_few : (w : TableWindow) (e : BlockEnd) → EndsSecond w e → length (nodes_of e) ≡ w.count
+second_few w e h = ap (λ x. length (nodes_of x)) h.switches ∙ (length-map (entry_cases w.count) (λ c. c.to) ∙ cases_count w.count)
 
-pub small_successor : (x : Inst) (at next b : ℕ) → next < 2 ^ 32 → Contains (successors_of x at next) b → (b < 2 ^ 32) ⊎ (b ≡ at)
-small_successor x at next b h g = small_of at (successors_of x at next) b (are_small x at next h) g
+pub window_blocks_few : (w : TableWindow) (blocks : List Block) → EndAsWindow w blocks → length blocks ≡ 2
+window_blocks_few w [] h = absurd h
+window_blocks_few w (a ∷ []) h = absurd h
+window_blocks_few w (a ∷ b ∷ []) h = refl
+window_blocks_few w (a ∷ b ∷ c ∷ rest) h = absurd h
+
+pub window_nodes_few : (w : TableWindow) (blocks : List Block) → EndAsWindow w blocks → length (nodes_in blocks) ≤ 2 + w.count
+window_nodes_few w [] h = absurd h
+window_nodes_few w (a ∷ []) h = absurd h
+window_nodes_few w (a ∷ b ∷ []) h =
+    omega (arith, first_few a.end h.0, second_few w b.end h.1, length-append (nodes_of a.end) (nodes_of b.end ++ []), length-append (nodes_of b.end) [])
+window_nodes_few w (a ∷ b ∷ c ∷ rest) h = absurd h
+
+targets_count : (m : List Segment) (w : TableWindow) (n : ℕ) → length (targets_of m w n) ≡ n
+targets_count m w zero = refl
+targets_count m w (suc n) = omega (arith, length-append (targets_of m w n) (target_of m w n ∷ []), targets_count m w n)
+
+pub window_successors_few : (m : List Segment) (w : TableWindow) → length (window_successors m w) ≡ 1 + w.count
+window_successors_few m w = omega (arith, targets_count m w w.count)

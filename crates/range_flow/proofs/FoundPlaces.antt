@@ -19,7 +19,7 @@ use Rattle.range_flow.specs.Laws.{DiscoveredCover}
 
 reached_inside : (m : List Segment) (r : Range) (a : ℕ) → Reaches m r a → is_inside r a ≡ true
 reached_inside m r _ (reach.entry h) = h
-reached_inside m r _ (reach.along a n b i h g s e) = e
+reached_inside m r _ (reach.along a b list h g s e) = e
 
 -- a list of addresses begins with the first of them
 begins_so : (a : ℕ) (places : List ℕ) → Grows (a ∷ []) places → slice_get places 0 ≡ Some a
@@ -48,7 +48,7 @@ discovered_cover m r places g d none =
       record {
         entry = begins_so r.entry places (subst (λ l. Grows (r.entry ∷ []) l) d.order (grows_all (concat d.lists) (r.entry ∷ [])));
         inside = inside;
-        closed = λ a b i n h s e t. (d.reached b).1 (reach.along a n b i ((d.reached a).0 h) s e t);
+        closed = λ a b list h s e t. (d.reached b).1 (reach.along a b list ((d.reached a).0 h) s e t);
       },
       omega (arith, few, few_addresses m r none.range),
     )

@@ -17,7 +17,7 @@ use Rattle.machine.specs.Run.{Scene, answer_breaks, strays, act, acts, step_at}
 use Rattle.machine.specs.Laws.{Breaks, AnswerBreaks, GoStrays}
 use Rattle.machine.specs.Laws as laws
 use Rattle.machine.proofs.Straying.{straying_is_exact}
-use Rattle.range_flow.specs.Plan.{HasFrozen}
+use Rattle.flow_pieces.specs.Covered.{HasFrozen}
 
 kept_frozen : (m : List Segment) (s : ℕ) (old new : Mem) → (Breaks m s old new → ⊥) → HasFrozen m old → HasFrozen m new
 kept_frozen m s old new h f a b e = elim (cases_eq (byte_at old a) (byte_at new a)) [

@@ -18,9 +18,8 @@ use Rattle.range_flow.specs.Pieces.{IsPieceOf, IsLeaveTo, addresses_of, first_no
 use Rattle.range_flow.specs.Flow.{AreCovering, IsFlowOf}
 use Rattle.range_flow.specs.Laws.{FlowIsGiven}
 use Rattle.range_flow.proofs.Members.{contains_cases, contains_got, contains_here, contains_later, contains_mapped, none_in}
-use Rattle.range_flow.proofs.Covering.{some_block}
 use Rattle.range_flow.proofs.Numbering.{piece_found, piece_member}
-use Rattle.range_flow.proofs.Few.{ends_few, few_blocks, few_successors, small_successor}
+use Rattle.range_flow.proofs.Standing.{IsSmall, small, begins, rule}
 use Rattle.range_flow.proofs.Joined.{NodesBelow, block_total, node_total, block_total-append, node_total-append, count_blocks, count_nodes, first_within, blocks_below, rule_joined, leave_rule}
 use Rattle.range_flow.proofs.RangePlan.{inner_place, has_place, all_closed}
 
@@ -37,18 +36,15 @@ all_contain (q ∷ ps) p a h g = elim (contains_cases q p ps h) [
 ]
 
 module _ (m : List Segment) (r : Range) where
-  -- ---- of the pieces of instructions
+  -- ---- of the pieces of places
 
-  instructions_few : (ps : List FlowPiece) → ((p : FlowPiece) → Contains ps p → IsPieceOf m r p)
-      → (block_total ps ≤ 2 * length ps) × (node_total ps ≤ 4 * length ps) × (length (all_successors ps) ≤ 2 * length ps)
-  instructions_few [] h = (omega arith, omega arith, omega arith)
-  instructions_few (p ∷ ps) h =
-      let i = h p (contains_here p ps) in
-      let rest = instructions_few ps (λ q g. h q (contains_later p q ps g)) in
-      let blocks : length p.blocks ≤ 2 = subst (λ n. n ≤ 2) (sym i.blocks.count) (few_blocks i.inst) in
-      let nodes : length (nodes_in p.blocks) ≤ 4 = ends_few i.inst p.blocks i.blocks.ends in
-      let next : length p.successors ≤ 2 = subst (λ l. length l ≤ 2) (sym i.successors) (few_successors i.inst p.at ((p.at + i.size) % 2 ^ 32)) in
-      (omega (arith, rest.0, blocks), omega (arith, rest.1, nodes), omega (arith, rest.2, next, length-append p.successors (all_successors ps)))
+  pieces_few : (ps : List FlowPiece) → ((p : FlowPiece) → Contains ps p → IsPieceOf m r p)
+      → (block_total ps ≤ 2 * length ps) × (node_total ps ≤ 1026 * length ps) × (length (all_successors ps) ≤ 1025 * length ps)
+  pieces_few [] h = (omega arith, omega arith, omega arith)
+  pieces_few (p ∷ ps) h =
+      let i : IsSmall m r p = small m r p (h p (contains_here p ps)) in
+      let rest = pieces_few ps (λ q g. h q (contains_later p q ps g)) in
+      (omega (arith, rest.0, i.blocks), omega (arith, rest.1, i.nodes), omega (arith, rest.2, i.successors, length-append p.successors (all_successors ps)))
 
 -- ---- of the pieces of addresses outside
 
@@ -71,8 +67,8 @@ module _ (m : List Segment) (r : Range) (places : List ℕ) (f : Flow) (covering
   abbrev all : List FlowPiece
   all = is.inner ++ is.outer
 
-  instruction : (p : FlowPiece) → Contains is.inner p → IsPieceOf m r p
-  instruction p h = All-contains (IsPieceOf m r) is.inner p is.instructions h
+  piece : (p : FlowPiece) → Contains is.inner p → IsPieceOf m r p
+  piece p h = All-contains (IsPieceOf m r) is.inner p is.instructions h
 
   leave : (p : FlowPiece) → Contains is.outer p → IsLeaveTo p
   leave p h = All-contains IsLeaveTo is.outer p is.leaves h
@@ -84,34 +80,22 @@ module _ (m : List Segment) (r : Range) (places : List ℕ) (f : Flow) (covering
 
   few : length places ≤ 2 ^ 16 → (block_total all < 2 ^ 30) × (node_total all < 2 ^ 30)
   few le =
-      let i = instructions_few m r is.inner instruction in
+      let i = pieces_few m r is.inner piece in
       let o = leaves_few is.outer leave in
       let count : length is.inner ≤ 2 ^ 16 = subst (λ n. n ≤ 2 ^ 16) (sym (ap length is.at_places) ∙ length-map is.inner (λ p. p.at)) le in (
         omega (arith, block_total-append is.inner is.outer, i.0, i.2, o.0, outer_few, count),
         omega (arith, node_total-append is.inner is.outer, i.1, o.1, count),
       )
 
-  -- an address outside is a word
-  outer_small_by : (p : FlowPiece) (a : ℕ) → Contains is.inner p → is_inside r a ≡ false → (a < 2 ^ 32) ⊎ (a ≡ p.at) → a < 2 ^ 32
-  outer_small_by p a h e (inl lt) = lt
-  outer_small_by p a h e (inr same) = absurd (both_ways (is_inside r a) e (subst (λ x. is_inside r x ≡ true) (sym same) (covering.inside p.at (inner_place m r places f covering is p h))))
-
-  outer_small : (a : ℕ) → Contains (addresses_of is.outer) a → a < 2 ^ 32
-  outer_small a h =
-      let o = is.outside a h in
-      let i = instruction o.1 o.2 in
-      let next = (o.1.at + i.size) % 2 ^ 32 in
-      outer_small_by o.1 a o.2 o.0 (small_successor i.inst o.1.at ((o.1.at + i.size) % 2 ^ 32) a (omega arith) (subst (λ l. Contains l a) i.successors o.3))
-
   piece_rule : (p : FlowPiece) → Contains all p → IsTrue (are_flow_blocks p.blocks)
   piece_rule p h = elim (Contains-append_cases is.inner is.outer p h) [
-    | inl i ↦ (instruction p i).blocks.rule
-    | inr o ↦ subst (λ bs. IsTrue (are_flow_blocks bs)) (sym (leave p o).blocks) (leave_rule p.at (outer_small p.at (contains_mapped (λ q. q.at) is.outer p o)))
+    | inl i ↦ rule m r p (piece p i)
+    | inr o ↦ subst (λ bs. IsTrue (are_flow_blocks bs)) (sym (leave p o).blocks) (leave_rule p.at (leave p o).word)
   ]
 
   has_blocks : (p : FlowPiece) → Contains all p → 0 < length p.blocks
   has_blocks p h = elim (Contains-append_cases is.inner is.outer p h) [
-    | inl i ↦ subst (λ n. 0 < n) (sym (instruction p i).blocks.count) (some_block (instruction p i).inst)
+    | inl i ↦ begins m r p (piece p i)
     | inr o ↦ subst (λ bs. 0 < length bs) (sym (leave p o).blocks) (omega arith)
   ]
 

@@ -1,6 +1,6 @@
 mod Joining
 mod Placing
-mod Whole
+mod Begun
 mod Outsiders
 pub mod Ends
 pub mod Simulates
@@ -12,6 +12,7 @@ pub mod Beginning
 pub mod Covering
 pub mod RangePlan
 pub mod Few
+pub mod Standing
 pub mod Joined
 pub mod Given
 pub mod Counted

@@ -1,17 +1,13 @@
 -- The pieces of places and of the addresses outside that they lead to are those of the flow of the range.
-use Rattle.std.proofs.Common.{◌≡◌, ◌⊎◌, inl, inr, ℕ, ◌+◌, ◌*◌, ◌%◌, ◌^◌, ◌≤◌, Bool, true, false, not, ◌||◌, ◌&&◌, nat_eq, List, [], ◌∷◌, ◌++◌, length, map, take, refl, sym, ap, ◌∙◌, subst, arith}
+use Rattle.std.proofs.Common.{◌≡◌, ◌⊎◌, inl, inr, ℕ, ◌+◌, ◌*◌, ◌^◌, ◌<◌, ◌≤◌, Bool, true, false, not, ◌||◌, ◌&&◌, nat_eq, List, [], ◌∷◌, ◌++◌, length, map, refl, sym, ap, ◌∙◌, subst, arith}
 use Rattle.std.specs.Prelude.{All, Contains, Result, Ok, Err, IfOk}
 use Rattle.std.specs.List.{list_any, IsDistinct}
 use Rattle.std.proofs.lemmas.Bool.{and_parts, and_from}
 use Rattle.std.proofs.lemmas.List.Elements.{All-head, All-tail, All-map, All-contains}
 use Rattle.elf_image.specs.declared.image.Segment.{Segment}
 use Rattle.elf_image.specs.declared.range.Range.{Range}
-use Rattle.elf_image.specs.Range.{is_inside, bytes_to_end}
-use Rattle.x86_inst.specs.Spelling.{Spells}
-use Rattle.graph_order.specs.Graph.{Digraph}
+use Rattle.elf_image.specs.Range.{is_inside}
 use Rattle.micro_ir.specs.declared.flow.Flow.{Flow}
-use Rattle.flow_graph.specs.Place.{HasNoPlace}
-use Rattle.flow_graph.specs.Discovery.{IsDiscovered}
 use Rattle.flow_graph.proofs.Walked.{contains_has, has_contains}
 use Rattle.range_flow.specs.declared.lifted.Lifted.{Lifted}
 use Rattle.range_flow.specs.Pieces.{IsPieceOf, IsLeaveTo, addresses_of, flow_blocks}
@@ -19,21 +15,18 @@ use Rattle.range_flow.specs.Flow.{IsOutsideOf, IsFlowOf}
 use Rattle.range_flow.specs.Nodes.{piece_of, pieces_of, leave_piece, total_of, successors_in, leads_outside}
 use Rattle.range_flow.specs.Lifting.{IsLiftedIn}
 use Rattle.range_flow.proofs.Members.{contains_cases, contains_here, contains_later, contains_mapped, mapped, none_in}
-use Rattle.range_flow.proofs.Few.{few_blocks, few_successors}
+use Rattle.range_flow.proofs.Standing.{IsSmall, small}
 use Rattle.range_flow.proofs.RangePlan.{all_by}
-use Rattle.range_flow.proofs.Whole.{place_code}
 
 -- ---- how many
 
--- each has at most two blocks and two successors
-pub few_lifted : (code : List ℕ) (entry : ℕ) (ls : List Lifted) → All (IsLiftedIn code entry) ls → (total_of ls ≤ 2 * length ls) × (successors_in ls ≤ 2 * length ls)
-few_lifted code entry [] h = (omega arith, omega arith)
-few_lifted code entry (l ∷ ls) h =
-    let x = All-head (IsLiftedIn code entry) l ls h in
-    let rest = few_lifted code entry ls (All-tail (IsLiftedIn code entry) l ls h) in
-    let blocks : length l.blocks.items ≤ 2 = subst (λ n. n ≤ 2) (sym x.blocks.count) (few_blocks x.inst) in
-    let next : length l.successors.items ≤ 2 = subst (λ s. length s ≤ 2) (sym x.successors) (few_successors x.inst l.at ((l.at + x.size) % 2 ^ 32)) in
-    (omega (arith, rest.0, blocks), omega (arith, rest.1, next))
+-- each has at most two blocks and 1,025 successors
+pub few_lifted : (m : List Segment) (r : Range) (ls : List Lifted) → All (IsLiftedIn m r) ls → (total_of ls ≤ 2 * length ls) × (successors_in ls ≤ 1025 * length ls)
+few_lifted m r [] h = (omega arith, omega arith)
+few_lifted m r (l ∷ ls) h =
+    let x : IsSmall m r (piece_of l) = small m r (piece_of l) (All-head (IsLiftedIn m r) l ls h) in
+    let rest = few_lifted m r ls (All-tail (IsLiftedIn m r) l ls h) in
+    (omega (arith, rest.0, x.blocks), omega (arith, rest.1, x.successors))
 
 -- ---- the addresses outside
 
@@ -83,22 +76,9 @@ leave_addresses (k ∷ keys) = ap (λ rest. k ∷ rest) (leave_addresses keys)
 
 -- ---- the flow
 
-module _ (m : List Segment) (r : Range) (places : List ℕ) (g : Digraph) (n : HasNoPlace m r) (d : IsDiscovered m r places g)
-    (ls : List Lifted) (keys : List ℕ) (here : map (λ l. l.at) ls ≡ places) (lifted : All (IsLiftedIn (bytes_to_end m r r.entry) r.entry) ls)
-    (members : (a : ℕ) → list_any (nat_eq a) keys ≡ leads_outside r ls a) (distinct : IsDistinct nat_eq keys) where
-  is_piece : (l : Lifted) → Contains ls l → IsPieceOf m r (piece_of l)
-  is_piece l h =
-      let x = All-contains (IsLiftedIn (bytes_to_end m r r.entry) r.entry) ls l lifted h in
-      let place : Contains places l.at = subst (λ ps. Contains ps l.at) here (contains_mapped (λ y. y.at) ls l h) in
-      let code = place_code m r places g n d l.at place in
-      record {
-        inst = x.inst;
-        size = x.size;
-        begins = record { within = subst (λ y. x.size ≤ length y) (sym code) x.within; spelled = subst (λ y. Spells (take x.size y) x.inst) (sym code) x.spelled };
-        successors = x.successors;
-        blocks = x.blocks;
-      }
-
+module _ (m : List Segment) (r : Range) (places : List ℕ)
+    (ls : List Lifted) (keys : List ℕ) (here : map (λ l. l.at) ls ≡ places) (lifted : All (IsLiftedIn m r) ls)
+    (members : (a : ℕ) → list_any (nat_eq a) keys ≡ leads_outside r ls a) (distinct : IsDistinct nat_eq keys) (words : All (λ a. a < 2 ^ 32) keys) where
   outside_from : (a : ℕ) → Contains keys a → IsOutsideOf r (pieces_of ls) a
   outside_from a h =
       let q = leads_from r ls a (sym (members a) ∙ contains_has keys a h) in
@@ -114,8 +94,8 @@ module _ (m : List Segment) (r : Range) (places : List ℕ) (g : Digraph) (n : H
     inner = pieces_of ls;
     outer = map leave_piece keys;
     at_places = lifted_addresses ls ∙ here;
-    instructions = All-map (IsPieceOf m r) piece_of ls (all_by (λ l. IsPieceOf m r (piece_of l)) ls is_piece);
-    leaves = All-map IsLeaveTo leave_piece keys (all_by (λ a. IsLeaveTo (leave_piece a)) keys (λ a h. record { blocks = refl; successors = refl }));
+    instructions = All-map (IsPieceOf m r) piece_of ls lifted;
+    leaves = All-map IsLeaveTo leave_piece keys (all_by (λ a. IsLeaveTo (leave_piece a)) keys (λ a h. record { word = All-contains (λ b. b < 2 ^ 32) keys a words h; blocks = refl; successors = refl }));
     outside = λ a h. outside_from a (subst (λ ks. Contains ks a) (leave_addresses keys) h);
     complete = λ a h. subst (λ ks. Contains ks a) (sym (leave_addresses keys)) (outside_to a h);
     once = subst (IsDistinct nat_eq) (sym (leave_addresses keys)) distinct;

@@ -1,12 +1,8 @@
 -- What is made for one place more.
-use Rattle.std.proofs.Common.{◌≡◌, ℕ, ◌+◌, ◌-◌, ◌<◌, List, [], ◌∷◌, ◌++◌, length, map, take, drop, get_or, sym, ap, ◌∙◌, subst, arith, append_assoc}
+use Rattle.std.proofs.Common.{◌≡◌, ℕ, ◌+◌, ◌<◌, List, [], ◌∷◌, ◌++◌, length, map, take, get_or, sym, ap, ◌∙◌, arith, append_assoc}
 use Rattle.std.proofs.lemmas.List.{map-append, take_more}
 use Rattle.range_flow.specs.declared.lifted.Lifted.{Lifted}
 use Rattle.range_flow.specs.Nodes.{piece_of, leave_piece, total_of}
-use Rattle.range_flow.specs.Lifting.{IsLiftedFrom, IsLiftedIn}
-
-pub lifted_in : (code x : List ℕ) (entry at : ℕ) (l : Lifted) → x ≡ drop (at - entry) code → IsLiftedFrom x at l → IsLiftedIn code entry l
-lifted_in code x entry at l e h = subst (λ a. IsLiftedFrom (drop (a - entry) code) a l) (sym h.here) (subst (λ y. IsLiftedFrom y at l) e h)
 
 -- a list that is mapped as far as another one goes, with one element more
 pub mapped_more : {A B C : Type 0} (f : A → C) (g : B → C) (all new : List A) (x : A) (front : List C) (ys : List B) (i : ℕ) (d : B)

@@ -26,7 +26,8 @@ use Rattle.lift_parts.specs.Stands.{StandsFor}
 use Rattle.lift_parts.specs.Lifted.{through, Matches, Stays}
 use Rattle.flow_pieces.specs.declared.piece.FlowPiece.{FlowPiece}
 use Rattle.range_flow.specs.Pieces.{addresses_of, first_node, flow_node, flow_blocks}
-use Rattle.range_flow.specs.Plan.{HasFrozen, Follows, IsCovered, IsPlan}
+use Rattle.flow_pieces.specs.Covered.{HasFrozen, Follows, IsCovered}
+use Rattle.range_flow.specs.Plan.{IsPlan}
 use Rattle.range_flow.specs.Laws.{PlannedFlowsAgree}
 use Rattle.range_flow.proofs.Ends.{EndsWell, walk_well}
 use Rattle.range_flow.proofs.Frozen.{steps_kept}

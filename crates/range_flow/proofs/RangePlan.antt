@@ -14,10 +14,12 @@ use Rattle.micro_ir.specs.declared.flow.Flow.{Flow}
 use Rattle.flow_pieces.specs.declared.piece.FlowPiece.{FlowPiece}
 use Rattle.range_flow.specs.Pieces.{IsPieceOf, IsLeaveTo, addresses_of}
 use Rattle.range_flow.specs.Flow.{AreCovering, IsFlowOf}
-use Rattle.range_flow.specs.Plan.{IsCovered, IsPlan}
+use Rattle.flow_pieces.specs.Covered.{IsCovered}
+use Rattle.range_flow.specs.Plan.{IsPlan}
 use Rattle.range_flow.specs.Laws.{FlowsAgree}
 use Rattle.range_flow.proofs.Members.{contains_mapped, none_in, get_left}
-use Rattle.range_flow.proofs.Covering.{instruction_covered, leave_covered}
+use Rattle.range_flow.proofs.Covering.{place_covered, leave_covered}
+use Rattle.range_flow.proofs.Standing.{leads}
 use Rattle.range_flow.proofs.Planned.{planned_flows_agree}
 
 pub all_by : {A : Type 0} (P : A → Type 0) (xs : List A) → ((x : A) → Contains xs x → P x) → All P xs
@@ -38,8 +40,7 @@ module _ (m : List Segment) (r : Range) (places : List ℕ) (f : Flow) (covering
   -- a successor of a place is a place or an address outside that has a piece
   next_place : (p : FlowPiece) (a : ℕ) → Contains is.inner p → Contains p.successors a → (t : Bool) → is_inside r a ≡ t → Contains places a ⊎ Contains (addresses_of is.outer) a
   next_place p a h g true e =
-      let i = All-contains (IsPieceOf m r) is.inner p is.instructions h in
-      inl (covering.closed p.at a i.inst i.size (inner_place p h) i.begins (subst (λ l. Contains l a) i.successors g) e)
+      inl (covering.closed p.at a p.successors (inner_place p h) (leads m r p (All-contains (IsPieceOf m r) is.inner p is.instructions h)) g e)
   next_place p a h g false e = inr (is.complete a (e, p, h, g))
 
   pub all_closed : (p : FlowPiece) (a : ℕ) → Contains (is.inner ++ is.outer) p → Contains p.successors a → Contains (addresses_of (is.inner ++ is.outer)) a
@@ -52,7 +53,7 @@ module _ (m : List Segment) (r : Range) (places : List ℕ) (f : Flow) (covering
   is_plan decoded d start = record {
     covered = All-append (IsCovered (scene_of m r decoded start)) is.inner is.outer
         (all_by (IsCovered (scene_of m r decoded start)) is.inner
-        (λ p h. instruction_covered m r decoded d start p (covering.inside p.at (inner_place p h)) (All-contains (IsPieceOf m r) is.inner p is.instructions h)))
+        (λ p h. place_covered m r decoded d start p (covering.inside p.at (inner_place p h)) (All-contains (IsPieceOf m r) is.inner p is.instructions h)))
         (all_by (IsCovered (scene_of m r decoded start)) is.outer
         (λ p h. leave_covered (scene_of m r decoded start) p (is.outside p.at (contains_mapped (λ q. q.at) is.outer p h)).0 (All-contains IsLeaveTo is.outer p is.leaves h)));
     closed = all_closed;

@@ -1,5 +1,5 @@
 -- The pieces of a range's flow, and the flow's blocks, which are those of its pieces.
-use Rattle.std.specs.Prelude.{◌≡◌, ℕ, ◌+◌, ◌-◌, ◌%◌, ◌^◌, nat_eq, nat_lt, if◌then◌else◌, List, [], ◌∷◌, ◌++◌, length, map, slice_get, Option, Some, None}
+use Rattle.std.specs.Prelude.{◌≡◌, ℕ, ◌+◌, ◌-◌, ◌%◌, ◌^◌, ◌<◌, nat_eq, nat_lt, if◌then◌else◌, List, [], ◌∷◌, ◌++◌, length, map, slice_get, Option, Some, None}
 use Rattle.elf_image.specs.declared.image.Segment.{Segment}
 use Rattle.elf_image.specs.declared.range.Range.{Range}
 use Rattle.x86_inst.specs.declared.Inst.{Inst}
@@ -42,8 +42,9 @@ pub data IsPieceOf (m : List Segment) (r : Range) (p : FlowPiece) : Type 0 where
 abbrev pub leave_block : ℕ → Block
 leave_block a = record { at = a; stmts = []; end = end.Leave (num a) }
 
--- The piece of an address outside the range: one block, which leaves for it.
+-- The piece of an address outside the range, which is a word: one block, which leaves for it.
 pub record IsLeaveTo (p : FlowPiece) : Type 0 where
+  pub word : p.at < 2 ^ 32
   pub blocks : p.blocks ≡ leave_block p.at ∷ []
   pub successors : p.successors ≡ []
 

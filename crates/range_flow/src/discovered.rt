@@ -13,15 +13,14 @@ use flow_graph::Found;
 use micro_ir::Flow;
 use std::alloc::{AllocError, Global};
 
-/// The flow of a range: the blocks of the instructions at the places that are reached, in the order of discovery, and then
-/// those that leave for the addresses outside that they lead to, in the order in which these come.
+/// The flow of a range: the blocks of the windows and instructions at the places that are reached, in the order of discovery,
+/// and then those that leave for the addresses outside that they lead to, in the order in which these come.
 pub fn flow_of(alloc: Global, m: &Image, r: &Range, found: &Found) -> Result<Flow, AllocError>
     requires no_place { HasNoPlace m.now r.now }
     requires discovered { IsDiscovered m.now r.now found.now.places.items found.now.graph }
     ensures { IfOk result (IsFlowOf m.now r.now found.now.places.items) }
 {
-    let code = m.bytes_to_end(alloc, *r, r.entry)?;
-    let mut all = lifted_places(alloc, &code, r.entry, &found.places)?;
+    let mut all = lifted_places(alloc, m, *r, &found.places)?;
     let outside = outside_of(alloc, *r, &all)?;
     push_leaves(alloc, &mut all, outside.as_slice())?;
     joined(alloc, all)

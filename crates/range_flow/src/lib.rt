@@ -11,7 +11,6 @@ mod lifted;
 mod nodes;
 mod outside;
 mod places;
-mod successors;
 #[cfg(test)]
 mod tests;
 

@@ -6,4 +6,4 @@ use Rattle.range_flow.proofs.places.lifted_places.Given as goal
 abbrev pub invariant-loop-place : goal.invariant-loop-place
 invariant-loop-place l =
     (map (λ x. x.at) l.all.items ≡ take l.place-index l.places)
-    × All (IsLiftedIn l.code l.entry) l.all.items
+    × All (IsLiftedIn l.m l.r) l.all.items
