@@ -65,11 +65,14 @@ module _ (sc : Scene) where
       → ((n : ℕ) (w : World) → n < length p.blocks → IsWorld w → Stays (length p.blocks + length p.successors) (enter (slice_get p.blocks n) w)) → IsCovered sc p
   covered_by p begins effect steady = record {
     begins = begins;
+    ready = λ n w. true;
+    ready_first = λ w. refl;
+    onward = λ n k w u lt iw r g own. refl;
     moves = λ s. 1;
     some_move = λ s. omega arith;
     between = λ s w i f lt. before_one p.at s i lt;
     effect = λ s w f. subst (λ r. Matches (length p.blocks) p.successors r (through (length p.blocks) p.blocks (enter (slice_get p.blocks 0) w))) (sym (one_step p.at s)) (effect s w f);
-    steady = steady;
+    steady = λ n w lt iw r. steady n w lt iw;
   }
 
 -- ---- the piece of an instruction

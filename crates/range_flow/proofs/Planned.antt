@@ -86,9 +86,10 @@ module _ (sc : Scene) (ps : List FlowPiece) (plan : IsPlan sc ps) where
   comes_by : (a k : ℕ) (w : World) (r : Onward State Ending) (x : Arrive) → 1 ≤ k → walk (flow_blocks ps) k (first_node ps a) w ≡ x → Meets r x → Comes a w r
   comes_by a k w r x le e h = (k, le, subst (λ y. Meets r y) (sym e) h)
 
-  step_comes : (a : ℕ) (p : FlowPiece) → piece_at ps a ≡ Some p → (r : Onward State Ending) (w : World) (x : Arrive) → enter (slice_get p.blocks 0) w ≡ x → Kept r
+  step_comes : (a : ℕ) (p : FlowPiece) → piece_at ps a ≡ Some p → (r : Onward State Ending) (w : World) (x : Arrive) → IsWorld w → enter (slice_get p.blocks 0) w ≡ x → Kept r
       → Matches (length p.blocks) p.successors r (through (length p.blocks) p.blocks x) → Stays (length p.blocks + length p.successors) x → Comes a w r
-  step_comes a p e r w (To n u) g f h s =
+  step_comes a p e r w (To n u) iw g f h s =
+      let c = covered_at a p e in
       let q = flow_node ps (first_node ps a) p in
       let first = first_entered a p w e ∙ ap (relocate q) g in
       ⊎_elim
@@ -97,15 +98,15 @@ module _ (sc : Scene) (ps : List FlowPiece) (plan : IsPlan sc ps) where
       let second = entered ps a n p u e lt in
       let met = subst (λ b. Matches (length p.blocks) p.successors r (cond b (enter (slice_get p.blocks n) u) (To n u))) (below_true n (length p.blocks) lt) h in
       comes_by a 2 w r (relocate q (enter (slice_get p.blocks n) u)) (omega arith) (two_blocks (first_node ps a) w (first_node ps a + n) u path (relocate q (enter (slice_get p.blocks n) u)) second)
-      (meets_of a p e r (enter (slice_get p.blocks n) u) f met ((covered_at a p e).steady n u lt s.1)))
+      (meets_of a p e r (enter (slice_get p.blocks n) u) f met (c.steady n u lt s.1 (c.onward 0 n w u c.begins iw (c.ready_first w) g lt))))
       (λ le.
       let met = subst (λ b. Matches (length p.blocks) p.successors r (cond b (enter (slice_get p.blocks n) u) (To n u))) (below_false n (length p.blocks) le) h in
       comes_by a 1 w r (To (q n) u) (omega arith) (one_block (first_node ps a) w (To (q n) u) first) (meets_of a p e r (To n u) f met s))
       (cases_lt n (length p.blocks))
-  step_comes a p e r w (End o) g f h s =
+  step_comes a p e r w (End o) iw g f h s =
       let first = first_entered a p w e ∙ ap (relocate (flow_node ps (first_node ps a) p)) g in
       comes_by a 1 w r (End o) (omega arith) (one_block (first_node ps a) w (End o) first) (meets_of a p e r (End o) f h tt)
-  step_comes a p e r w Nowhere g f h s = absurd s
+  step_comes a p e r w Nowhere iw g f h s = absurd s
 
   -- what is said of a piece's own address, of the address where it is found
   keeps_at : (a : ℕ) (p : FlowPiece) → piece_at ps a ≡ Some p → p.at ≡ a → (m : State) (w : World) → Follows sc.image m w
@@ -113,8 +114,8 @@ module _ (sc : Scene) (ps : List FlowPiece) (plan : IsPlan sc ps) where
   keeps_at a p e same m w st =
       let c = covered_at a p e in
       let effect = subst (λ b. Matches (length p.blocks) p.successors (steps State Ending (step_at sc) (c.moves m) b m) (through (length p.blocks) p.blocks (enter (slice_get p.blocks 0) w))) same (c.effect m w st) in
-      let k = step_comes a p e (steps State Ending (step_at sc) (c.moves m) a m) w (enter (slice_get p.blocks 0) w) refl
-      (λ b u g. steps_kept sc (c.moves m) a b m u st.frozen_bytes g) effect (c.steady 0 w c.begins st.world) in
+      let k = step_comes a p e (steps State Ending (step_at sc) (c.moves m) a m) w (enter (slice_get p.blocks 0) w) st.world refl
+      (λ b u g. steps_kept sc (c.moves m) a b m u st.frozen_bytes g) effect (c.steady 0 w c.begins st.world (c.ready_first w)) in
       record {
         moves = c.moves m;
         count = k.0;
@@ -138,6 +139,7 @@ module _ (sc : Scene) (ps : List FlowPiece) (plan : IsPlan sc ps) where
     pub small : own < length piece.blocks
     pub node : n ≡ first_node ps address + own
     pub world : IsWorld w
+    pub ready : (covered_at address piece there).ready own w ≡ true
 
   abbrev Safe : Arrive → Type 0
   Safe (To n w) = Stood n w
@@ -145,27 +147,33 @@ module _ (sc : Scene) (ps : List FlowPiece) (plan : IsPlan sc ps) where
   Safe Nowhere = ⊥
 
   stood_first : (a : ℕ) (w : World) → Known a → IsWorld w → (n : ℕ) → n ≡ first_node ps a → Stood n w
-  stood_first a w known iw n e = record { address = a; piece = known.0; own = 0; there = known.1; small = (covered_at a known.0 known.1).begins; node = omega (arith, e); world = iw }
+  stood_first a w known iw n e =
+      let c = covered_at a known.0 known.1 in
+      record { address = a; piece = known.0; own = 0; there = known.1; small = c.begins; node = omega (arith, e); world = iw; ready = c.ready_first w }
 
-  safe_target : (a : ℕ) (p : FlowPiece) → piece_at ps a ≡ Some p → (n : ℕ) (w : World) → n < length p.blocks + length p.successors → IsWorld w → Stood (flow_node ps (first_node ps a) p n) w
-  safe_target a p e n w lt iw =
+  safe_target : (a : ℕ) (p : FlowPiece) (e : piece_at ps a ≡ Some p) (n : ℕ) (w : World) → n < length p.blocks + length p.successors → IsWorld w → (n < length p.blocks → (covered_at a p e).ready n w ≡ true)
+      → Stood (flow_node ps (first_node ps a) p n) w
+  safe_target a p e n w lt iw r =
       ⊎_elim
-      (λ own. record { address = a; piece = p; own = n; there = e; small = own; node = own_node ps (first_node ps a) n p own; world = iw })
+      (λ own. record { address = a; piece = p; own = n; there = e; small = own; node = own_node ps (first_node ps a) n p own; world = iw; ready = r own })
       (λ big.
       let got = get_below p.successors (n - length p.blocks) (omega (arith, lt, big)) in
       let eq : n ≡ length p.blocks + (n - length p.blocks) = omega (arith, big) in
       stood_first got.0 w (next_known a p (n - length p.blocks) got.0 e got.1) iw (flow_node ps (first_node ps a) p n) (next_node ps (first_node ps a) p n (n - length p.blocks) got.0 eq got.1))
       (cases_lt n (length p.blocks))
 
-  safe_from : (a : ℕ) (p : FlowPiece) → piece_at ps a ≡ Some p → (x : Arrive) → Stays (length p.blocks + length p.successors) x → Safe (relocate (flow_node ps (first_node ps a) p) x)
-  safe_from a p e (To n w) s = safe_target a p e n w s.0 s.1
-  safe_from a p e (End o) s = tt
-  safe_from a p e Nowhere s = s
+  safe_from : (a : ℕ) (p : FlowPiece) (e : piece_at ps a ≡ Some p) (x : Arrive) → Stays (length p.blocks + length p.successors) x
+      → ((k : ℕ) (u : World) → x ≡ To k u → k < length p.blocks → (covered_at a p e).ready k u ≡ true) → Safe (relocate (flow_node ps (first_node ps a) p) x)
+  safe_from a p e (To n w) s r = safe_target a p e n w s.0 s.1 (r n w refl)
+  safe_from a p e (End o) s r = tt
+  safe_from a p e Nowhere s r = s
 
   safe_block : (n : ℕ) (w : World) → Stood n w → Safe (enter (slice_get (flow_blocks ps) n) w)
   safe_block n w st =
+      let c = covered_at st.address st.piece st.there in
       subst (λ x. Safe x) (sym (ap (λ k. enter (slice_get (flow_blocks ps) k) w) st.node ∙ entered ps st.address st.own st.piece w st.there st.small))
-      (safe_from st.address st.piece st.there (enter (slice_get st.piece.blocks st.own) w) ((covered_at st.address st.piece st.there).steady st.own w st.small st.world))
+      (safe_from st.address st.piece st.there (enter (slice_get st.piece.blocks st.own) w) (c.steady st.own w st.small st.world st.ready)
+      (λ k u g lt. c.onward st.own k w u st.small st.world st.ready g lt))
 
   safe_on : (k : ℕ) → ((n : ℕ) (w : World) → Stood n w → Safe (walk (flow_blocks ps) k n w)) → (x : Arrive) → Safe x → Safe (onward x (walk (flow_blocks ps) k))
   safe_on k h (To n w) s = h n w s
