@@ -17,7 +17,7 @@ use Rattle.micro_ir.specs.Laws.{moved_end}
 use Rattle.micro_ir.specs.Counts.{stores_of_stmts, stores_of, calls_of_end, calls_of}
 use Rattle.lift_parts.specs.Lifted.{once}
 use Rattle.flow_graph.specs.Reach.{AreSuccessors}
-use Rattle.flow_graph.proofs.OnePlaces.{one_list}
+use Rattle.flow_graph.proofs.OneLists.{one_list}
 use Rattle.flow_pieces.specs.declared.piece.FlowPiece.{FlowPiece}
 use Rattle.range_flow.specs.Pieces.{IsPieceOf, IsLeaveTo, addresses_of, flow_node, moved_block, blocks_from}
 use Rattle.range_flow.specs.Flow.{IsFlowOf}
