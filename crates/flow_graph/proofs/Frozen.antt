@@ -1,7 +1,7 @@
 -- The first byte of a range that isn't frozen, and the code of a range that is frozen as a whole.
-use Rattle.std.proofs.Common.{◌≡◌, ℕ, zero, suc, ◌+◌, ◌-◌, ◌^◌, ◌<◌, ◌≤◌, inl, inr, min, true, false, nat_eq, nat_lt, if◌then◌else◌, List, length, Option, Some, None, refl, sym, ap, ◌∙◌, arith, add-zero}
+use Rattle.std.proofs.Common.{◌≡◌, ℕ, zero, suc, ◌+◌, ◌-◌, ◌^◌, ◌<◌, ◌≤◌, inl, inr, min, true, false, nat_eq, nat_lt, nat_le, if◌then◌else◌, List, length, Option, Some, None, refl, sym, ap, ◌∙◌, arith, add-zero}
 use Rattle.std.specs.Option.{option_map}
-use Rattle.std.proofs.lemmas.Bool.{le-leb, lt-ltb, le-ltb, cases_lt, and_from, ne_eqb}
+use Rattle.std.proofs.lemmas.Bool.{le-leb, lt-ltb, le-ltb, cases_lt, and_from, and_parts, leb-true, ltb-true, ne_eqb}
 use Rattle.elf_image.specs.declared.image.Segment.{Segment}
 use Rattle.elf_image.specs.declared.range.Range.{Range}
 use Rattle.elf_image.specs.Image.{frozen_byte}
@@ -45,6 +45,11 @@ none_by m a (suc k) h = at (frozen_byte m a) (λ g. none_by m (a + 1) k g) h
 
 pub entry_inside : (r : Range) → 0 < r.size → is_inside r r.entry ≡ true
 entry_inside r h = and_from _ _ (le-leb r.entry r.entry (omega arith)) (lt-ltb r.entry (r.entry + r.size) (omega (arith, h)))
+
+pub inside_bounds : (r : Range) (a : ℕ) → is_inside r a ≡ true → (r.entry ≤ a) × (a < r.entry + r.size)
+inside_bounds r a h =
+    let p = and_parts (nat_le r.entry a) (nat_lt a (r.entry + r.size)) h in
+    (leb-true r.entry a p.0, ltb-true a (r.entry + r.size) p.1)
 
 -- how many addresses there are to the range's end, and to the last one
 abbrev room : Range → ℕ

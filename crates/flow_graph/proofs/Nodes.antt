@@ -26,7 +26,7 @@ at_map f (xs ∷ xss) (suc k) = at_map f xss k
 
 node_by : (m : List Segment) (r : Range) (places : List ℕ) (g : Digraph) (k a : ℕ) (successors : List ℕ) → HasNoPlace m r → IsDiscovered m r places g → Contains places a
     → get_or g.succ k [] ≡ map (number_in places) successors → HasSuccessors m r a successors → IsNode m r places g k a
-node_by m r places g k a successors none d there is (list.begins i n b e) = record { i = i; n = n; begins = b; list = is ∙ ap (map (number_in places)) e }
+node_by m r places g k a successors none d there is (list.begins all b e) = record { all = all; leads = b; list = is ∙ ap (map (number_in places)) e }
 node_by m r places g k a successors none d there is (list.none empty e) =
     let reached = (d.reached a).0 there in
     absurd (none.reached a Instruction reached (empty, λ begun. none.reached a Straddle reached (empty, begun)))

@@ -11,29 +11,15 @@ use Rattle.std.proofs.lemmas.Map.Made.{length-le_from_is_member}
 use Rattle.elf_image.specs.declared.image.Segment.{Segment}
 use Rattle.elf_image.specs.declared.range.Range.{Range}
 use Rattle.elf_image.specs.Range.{is_inside}
-use Rattle.x86_inst.specs.declared.Inst.{Inst}
-use Rattle.x86_model.specs.Successors.{successors_of}
-use Rattle.machine.specs.Code.{BeginsAt}
 use Rattle.graph_order.specs.Graph.{Digraph}
 use Rattle.flow_graph.specs.Reach as reach
-use Rattle.flow_graph.specs.Reach.{Reaches, next_of}
+use Rattle.flow_graph.specs.Reach.{AreSuccessors, Reaches}
 use Rattle.flow_graph.specs.Discovery as list
 use Rattle.flow_graph.specs.Discovery.{with_new, firsts, number_in, HasSuccessors, IsDiscovered}
 use Rattle.flow_graph.specs.Laws.{OneDiscovery}
 use Rattle.flow_graph.proofs.Firsts.{Has, Grows, has_left, has_right, has_one, has_all, grows_all, distinct_firsts}
-use Rattle.flow_graph.proofs.OnePlaces.{some_begins, one_at}
+use Rattle.flow_graph.proofs.OneLists.{one_inside}
 use Rattle.flow_graph.proofs.Walked.{has_contains, in_concat, zip_at, next_there}
-
--- ---- an address has one list of successors
-
-one_list : (m : List Segment) (r : Range) (a : ℕ) (xs ys : List ℕ) → HasSuccessors m r a xs → HasSuccessors m r a ys → xs ≡ ys
-one_list m r a xs ys (list.begins i n b e) (list.begins j k c f) =
-    let p = one_at m r a i j n k b c in
-    let same : successors_of i a (next_of a n) ≡ successors_of j a (next_of a k) = ap (λ x. successors_of x a (next_of a n)) p.1 ∙ ap (λ x. successors_of j a (next_of a x)) p.0 in
-    e ∙ ap (filter (is_inside r)) same ∙ sym f
-one_list m r a xs ys (list.begins i n b e) (list.none none f) = absurd (some_begins m r a i n b none)
-one_list m r a xs ys (list.none none e) (list.begins i n b f) = absurd (some_begins m r a i n b none)
-one_list m r a xs ys (list.none none e) (list.none other f) = e ∙ sym f
 
 same_lists : (m : List Segment) (r : Range) (places : List ℕ) (xss yss : List (List ℕ)) → AllZip (HasSuccessors m r) places xss → AllZip (HasSuccessors m r) places yss → xss ≡ yss
 same_lists m r [] [] [] h k = refl
@@ -42,7 +28,7 @@ same_lists m r [] (xs ∷ xss) yss h k = absurd h
 same_lists m r (a ∷ places) [] yss h k = absurd h
 same_lists m r (a ∷ places) (xs ∷ xss) [] h k = absurd k
 same_lists m r (a ∷ places) (xs ∷ xss) (ys ∷ yss) h k =
-    ap (λ l. l ∷ xss) (one_list m r a xs ys h.0 k.0) ∙ ap (λ l. ys ∷ l) (same_lists m r places xss yss h.1 k.1)
+    ap (λ l. l ∷ xss) (one_inside m r a xs ys h.0 k.0) ∙ ap (λ l. ys ∷ l) (same_lists m r places xss yss h.1 k.1)
 
 zip_take : {A B : Type 0} (R : A → B → Type 0) (n : ℕ) (xs : List A) (ys : List B) → AllZip R xs ys → AllZip R (take n xs) (take n ys)
 zip_take R zero xs ys h = tt
@@ -82,22 +68,22 @@ module _ (m : List Segment) (r : Range) (places : List ℕ) (g : Digraph) (d : I
 
   -- where they are no more than k, they hold all that is reached
   module _ (k : ℕ) (few : length (front k) ≤ k) where
-    leads : (j a n b : ℕ) (i : Inst) → j < length (front k) → get_or (front k) j a ≡ a → BeginsAt m r a i n → Contains (successors_of i a (next_of a n)) b
-        → is_inside r b ≡ true → Has (front k) b
-    leads j a n b i lt at begins s inside =
+    leads : (j a b : ℕ) (all : List ℕ) → j < length (front k) → get_or (front k) j a ≡ a → AreSuccessors m r a all → Contains all b → is_inside r b ≡ true
+        → Has (front k) b
+    leads j a b all lt at are s inside =
         let there : get_or places j a ≡ a = ap (λ l. get_or l j a) (grows k).1 ∙ get_front (front k) (grows k).0 j a lt ∙ at in
         let more : length (front k) ≤ length places = subst (λ l. length (front k) ≤ length l) (sym (grows k).1) (longer (front k) (grows k).0) in
         let p = zip_at (HasSuccessors m r) places d.lists j a [] d.listed (omega (arith, lt, more)) in
         let below : j < k = omega (arith, lt, few) in
         let here : HasSuccessors m r a (get_or d.lists j []) = subst (λ x. HasSuccessors m r x (get_or d.lists j [])) there p.1 in
-        let in_list : Has (get_or (take k d.lists) j []) b = subst (λ l. Has l b) (sym (get_or-take k d.lists j [] below)) (next_there m r a n b i (get_or d.lists j []) begins s inside here) in
+        let in_list : Has (get_or (take k d.lists) j []) b = subst (λ l. Has l b) (sym (get_or-take k d.lists j [] below)) (next_there m r a b all (get_or d.lists j []) are s inside here) in
         has_all (r.entry ∷ concat (take k d.lists)) [] b (has_right (r.entry ∷ []) (concat (take k d.lists)) b (in_concat (take k d.lists) j b (below_take k j d.lists below p.0) in_list))
 
     holds_all : (a : ℕ) → Reaches m r a → Has (front k) a
     holds_all _ (reach.entry h) = has_all (r.entry ∷ concat (take k d.lists)) [] r.entry (has_left (r.entry ∷ []) (concat (take k d.lists)) r.entry (has_one r.entry))
-    holds_all _ (reach.along a n b i h begins s inside) =
+    holds_all _ (reach.along a b all h are s inside) =
         let there = has_contains (front k) a (holds_all a h) in
-        leads there.0 a n b i there.1 there.2 begins s inside
+        leads there.0 a b all there.1 there.2 are s inside
 
     no_more : length places ≤ k
     no_more =

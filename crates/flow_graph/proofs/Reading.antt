@@ -1,5 +1,5 @@
 -- The code of a range that is frozen as a whole, and what begins at an address of it.
-use Rattle.std.proofs.Common.{◌≡◌, ℕ, zero, suc, ◌+◌, ◌-◌, ◌%◌, ◌^◌, ◌<◌, ◌≤◌, min, Bool, true, false, not, ◌&&◌, ◌==◌, if◌then◌else◌, List, [], ◌∷◌, length, drop, filter, Option, Some, None, refl, sym, ap, ◌∙◌, subst, arith, add-zero}
+use Rattle.std.proofs.Common.{◌≡◌, ℕ, zero, suc, ◌+◌, ◌-◌, ◌%◌, ◌^◌, ◌<◌, ◌≤◌, min, Bool, true, false, not, ◌&&◌, ◌==◌, if◌then◌else◌, List, [], ◌∷◌, length, drop, filter, Option, Some, None, refl, sym, ap, ◌∙◌, subst, arith, add-zero, length-append}
 use Rattle.std.proofs.lemmas.Bool.{le-leb, lt-ltb, and_from, and_parts, both_ways, eq-eqb, ne_eqb}
 use Rattle.elf_image.specs.declared.image.Segment.{Segment}
 use Rattle.elf_image.specs.declared.range.Range.{Range}
@@ -7,6 +7,8 @@ use Rattle.elf_image.specs.Image.{frozen_byte}
 use Rattle.elf_image.specs.Range.{is_inside, before_some, frozen_from, bytes_to_end}
 use Rattle.x86_inst.specs.declared.Inst.{Inst}
 use Rattle.x86_inst.specs.declared.Inst.TheVariants as inst
+use Rattle.x86_inst.specs.declared.Operand.TheVariants as o
+use Rattle.x86_inst.specs.declared.AluOp.TheVariants.{Cmp}
 use Rattle.x86_decode.specs.Decodes.{Decodes}
 use Rattle.x86_decode.specs.declared.decoder.Decoded.{Decoded}
 use Rattle.x86_decode.specs.declared.decoder.Decoded.TheVariants as decoded
@@ -16,14 +18,15 @@ use Rattle.x86_model.specs.Successors.{successors_of}
 use Rattle.machine.specs.Code.{BeginsAt}
 use Rattle.flow_graph.specs.declared.place.Cause.{Cause}
 use Rattle.flow_graph.specs.declared.place.Cause.TheVariants as cause
-use Rattle.flow_graph.specs.Reach.{next_of}
+use Rattle.jump_tables.specs.declared.table.TableWindow.{TableWindow}
+use Rattle.jump_tables.specs.Window.{next_of, IsWindow, HasNoWindow, target_of, targets_of, window_successors}
+use Rattle.flow_graph.specs.Reach as reach
 use Rattle.flow_graph.specs.Place.{HasCause}
 use Rattle.flow_graph.specs.Discovery as list
 use Rattle.flow_graph.specs.Discovery.{HasSuccessors}
-use Rattle.flow_graph.specs.Sites.{call_cause, cause_of, found_successors, found_cause}
+use Rattle.flow_graph.specs.Sites.{call_cause, cause_of, found_successors, found_cause, CauseIs, IsSite, IsCode}
 use Rattle.flow_graph.proofs.Frozen.{entry_inside}
 use Rattle.flow_graph.proofs.OnePlaces.{some_begins, one_at}
-use Rattle.flow_graph.proofs.Walked.{CauseIs}
 
 -- ---- the code at an address
 
@@ -60,11 +63,12 @@ code_at m r at h fits whole =
 
 -- ---- what begins at an address
 
--- the successors of what begins there
-pub decoded_successors : (m : List Segment) (r : Range) (a : ℕ) (d : Decoded) → Decodes (bytes_to_end m r a) d → HasSuccessors m r a (found_successors r a d)
-decoded_successors m r a (decoded.Inst i n) h = list.begins i n (record { within = h.0; spelled = h.1 }) refl
-decoded_successors m r a decoded.Cut h = list.none h.0 refl
-decoded_successors m r a decoded.None h = list.none h.0 refl
+-- the successors of what begins there, where no window stands
+decoded_successors : (m : List Segment) (r : Range) (a : ℕ) (d : Decoded) → HasNoWindow m r a → Decodes (bytes_to_end m r a) d → HasSuccessors m r a (found_successors r a d)
+decoded_successors m r a (decoded.Inst i n) none h =
+    list.begins (successors_of i a (next_of a n)) (reach.of_instruction i n (record { within = h.0; spelled = h.1 }) none refl) refl
+decoded_successors m r a decoded.Cut none h = list.none h.0 refl
+decoded_successors m r a decoded.None none h = list.none h.0 refl
 
 -- a target that is inside and isn't the entry
 call_inside : (r : Range) (target : ℕ) → is_inside r target ≡ true → (target ≡ r.entry → ⊥) → call_cause r target ≡ Some cause.CallInside
@@ -111,7 +115,7 @@ by_cause : (m : List Segment) (r : Range) (a : ℕ) (i : Inst) (n : ℕ) (o : Op
 by_cause m r a i n None b e = λ c h. (let f : cause_of r i (next_of a n) ≡ Some c = is_cause m r a i n c b h in let z : ⊥ = cc in z)
 by_cause m r a i n (Some c) b e = has_cause m r a i n c b e
 
-pub decoded_cause : (m : List Segment) (r : Range) (a : ℕ) (d : Decoded) → Decodes (bytes_to_end m r a) d → CauseIs m r a (found_cause r a d)
+decoded_cause : (m : List Segment) (r : Range) (a : ℕ) (d : Decoded) → Decodes (bytes_to_end m r a) d → CauseIs m r a (found_cause r a d)
 decoded_cause m r a (decoded.Inst i n) h = by_cause m r a i n (cause_of r i (next_of a n)) (record { within = h.0; spelled = h.1 }) refl
 decoded_cause m r a decoded.Cut h = h
 decoded_cause m r a decoded.None h = h
@@ -141,18 +145,39 @@ filter_shorter p (x ∷ xs) = by (p x) (filter_shorter p xs)
     by true h = omega (arith, h)
     by false h = omega (arith, h)
 
-pub few_successors : (r : Range) (a : ℕ) (d : Decoded) → length (found_successors r a d) ≤ 2
+few_successors : (r : Range) (a : ℕ) (d : Decoded) → length (found_successors r a d) ≤ 2
 few_successors r a (decoded.Inst i n) = omega (arith, filter_shorter (is_inside r) (successors_of i a (next_of a n)), few_of i a (next_of a n))
 few_successors r a decoded.Cut = omega arith
 few_successors r a decoded.None = omega arith
 
--- ---- the walk reads the code at an address
+-- ---- a window has no cause, and at most 1,025 successors
 
--- a range that is frozen as a whole, and its code
-pub record IsCode (m : List Segment) (r : Range) (code : List ℕ) : Type 0 where
-  pub code_is : code ≡ bytes_to_end m r r.entry
-  pub whole : length code ≡ r.size
-  pub fits : r.entry + r.size ≤ 2 ^ 32
+window_cause : (m : List Segment) (r : Range) (a : ℕ) (w : TableWindow) → IsWindow m r a w → CauseIs m r a None
+window_cause m r a w h = by_cause m r a (inst.Alu Cmp h.index.size h.index.operand (o.Imm h.bound)) h.compare_size None h.compares refl
+
+as_many_targets : (m : List Segment) (w : TableWindow) (n : ℕ) → length (targets_of m w n) ≡ n
+as_many_targets m w zero = refl
+as_many_targets m w (suc n) = omega (arith, length-append (targets_of m w n) (target_of m w n ∷ []), as_many_targets m w n)
+
+-- ---- what stands at an address
+
+pub window_stands : (m : List Segment) (r : Range) (a : ℕ) (w : TableWindow) (successors : List ℕ) (why : Option Cause) → IsWindow m r a w
+    → successors ≡ filter (is_inside r) (window_successors m w) → why ≡ None → IsSite m r a successors why
+window_stands m r a w successors why h is none = record {
+  listed = list.begins (window_successors m w) (reach.of_window w h refl) is;
+  causes = subst (CauseIs m r a) (sym none) (window_cause m r a w h);
+  few = omega (arith, ap length is, filter_shorter (is_inside r) (window_successors m w), as_many_targets m w w.count, h.most);
+}
+
+pub instruction_stands : (m : List Segment) (r : Range) (a : ℕ) (d : Decoded) (successors : List ℕ) (why : Option Cause) → HasNoWindow m r a
+    → Decodes (bytes_to_end m r a) d → successors ≡ found_successors r a d → why ≡ found_cause r a d → IsSite m r a successors why
+instruction_stands m r a d successors why none h is causes = record {
+  listed = subst (HasSuccessors m r a) (sym is) (decoded_successors m r a d none h);
+  causes = subst (CauseIs m r a) (sym causes) (decoded_cause m r a d h);
+  few = omega (arith, ap length is, few_successors r a d);
+}
+
+-- ---- the walk reads the code at an address
 
 pub decoded_at : (m : List Segment) (r : Range) (code rest : List ℕ) (at : ℕ) (d : Decoded) → IsCode m r code → r.entry ≤ at → at < r.entry + r.size
     → rest ≡ drop (at - r.entry) code → Decodes rest d → Decodes (bytes_to_end m r at) d

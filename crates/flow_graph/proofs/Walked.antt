@@ -11,20 +11,18 @@ use Rattle.std.proofs.lemmas.Map.Views.{Contains-from_any, list_any-from_Contain
 use Rattle.elf_image.specs.declared.image.Segment.{Segment}
 use Rattle.elf_image.specs.declared.range.Range.{Range}
 use Rattle.elf_image.specs.Range.{is_inside}
-use Rattle.x86_inst.specs.declared.Inst.{Inst}
-use Rattle.x86_model.specs.Successors.{successors_of}
-use Rattle.machine.specs.Code.{BeginsAt}
 use Rattle.graph_order.specs.Graph.{Digraph}
 use Rattle.flow_graph.specs.declared.place.Place.{Place}
 use Rattle.flow_graph.specs.declared.place.Cause.{Cause}
 use Rattle.flow_graph.specs.Reach as reach
-use Rattle.flow_graph.specs.Reach.{Reaches, next_of}
+use Rattle.flow_graph.specs.Reach.{AreSuccessors, Reaches}
 use Rattle.flow_graph.specs.Place.{place_of, range_place, HasCause, HasNoPlace, NamedPlace}
 use Rattle.flow_graph.specs.Discovery as list
 use Rattle.flow_graph.specs.Discovery.{with_new, firsts, number_in, HasSuccessors, IsDiscovered}
-use Rattle.flow_graph.specs.Sites.{least_with}
+use Rattle.flow_graph.specs.Sites.{least_with, CauseIs}
+use Rattle.flow_graph.proofs.Frozen.{inside_bounds}
 use Rattle.flow_graph.proofs.Firsts.{Has, Grows, has_left, has_right, has_either, has_one, only_one, none_has, has_all, all_or_old, grows_all, numbers_stay, distinct_firsts, few_in_row}
-use Rattle.flow_graph.proofs.OnePlaces.{some_begins, one_at}
+use Rattle.flow_graph.proofs.OneLists.{one_list, leads_begins}
 
 -- ---- lists
 
@@ -126,11 +124,6 @@ abbrev pub IsLeastOf : List Segment → Range → List ℕ → Option Place → 
 IsLeastOf m r passed None = (a : ℕ) (c : Cause) → Has passed a → HasCause m r a c → ⊥
 IsLeastOf m r passed (Some p) = Has passed p.at × HasCause m r p.at p.cause × ((a : ℕ) (c : Cause) → Has passed a → HasCause m r a c → p.at ≤ a)
 
--- the cause of an address, if there is one
-abbrev pub CauseIs : List Segment → Range → ℕ → Option Cause → Type 0
-CauseIs m r a None = (c : Cause) → HasCause m r a c → ⊥
-CauseIs m r a (Some c) = HasCause m r a c
-
 pub record IsWalked (m : List Segment) (r : Range) (keys : List ℕ) (lists : List (List ℕ)) (named : Option Place) : Type 0 where
   pub addresses : List (List ℕ)
   pub listed : AllZip (HasSuccessors m r) (take (length addresses) keys) addresses
@@ -151,30 +144,26 @@ begins_walk m r inside = record {
 
 -- an inside successor of a reached address is reached
 pub reaches_next : (m : List Segment) (r : Range) (at : ℕ) (successors : List ℕ) (a : ℕ) → Reaches m r at → HasSuccessors m r at successors → Has successors a → Reaches m r a
-reaches_next m r at successors a h (list.begins i n b e) s =
-    let p = kept (is_inside r) (successors_of i at (next_of at n)) a (subst (λ l. Has l a) e s) in
-    reach.along at n a i h b (has_contains (successors_of i at (next_of at n)) a p.0) p.1
+reaches_next m r at successors a h (list.begins all b e) s =
+    let p = kept (is_inside r) all a (subst (λ l. Has l a) e s) in
+    reach.along at a all h b (has_contains all a p.0) p.1
 reaches_next m r at successors a h (list.none b e) s = absurd (none_has a (subst (λ l. Has l a) e s))
 
 -- and each of them is in the list
-pub next_there : (m : List Segment) (r : Range) (a n b : ℕ) (i : Inst) (successors : List ℕ) → BeginsAt m r a i n → Contains (successors_of i a (next_of a n)) b
-    → is_inside r b ≡ true → HasSuccessors m r a successors → Has successors b
-next_there m r a n b i successors begins s inside (list.begins j k other e) =
-    let p = one_at m r a i j n k begins other in
-    let same : successors_of i a (next_of a n) ≡ successors_of j a (next_of a k) = ap (λ x. successors_of x a (next_of a n)) p.1 ∙ ap (λ x. successors_of j a (next_of a x)) p.0 in
-    let there : Has (successors_of j a (next_of a k)) b = subst (λ l. Has l b) same (contains_has (successors_of i a (next_of a n)) b s) in
-    subst (λ l. Has l b) (sym e) (keeps (is_inside r) (successors_of j a (next_of a k)) b there inside)
-next_there m r a n b i successors begins s inside (list.none none e) = absurd (some_begins m r a i n begins none)
+pub next_there : (m : List Segment) (r : Range) (a b : ℕ) (all successors : List ℕ) → AreSuccessors m r a all → Contains all b → is_inside r b ≡ true
+    → HasSuccessors m r a successors → Has successors b
+next_there m r a b all successors leads s inside (list.begins other k e) =
+    let there : Has other b = subst (λ l. Has l b) (one_list m r a all other leads k) (contains_has all b s) in
+    subst (λ l. Has l b) (sym e) (keeps (is_inside r) other b there inside)
+next_there m r a b all successors leads s inside (list.none none e) = absurd (leads_begins m r a all leads none)
 
 -- what is reached is inside
 pub reached_inside : (m : List Segment) (r : Range) (a : ℕ) → Reaches m r a → is_inside r a ≡ true
 reached_inside m r _ (reach.entry h) = h
-reached_inside m r _ (reach.along a n b i h begins s inside) = inside
+reached_inside m r _ (reach.along a b all h leads s inside) = inside
 
 pub reached_bounds : (m : List Segment) (r : Range) (a : ℕ) → Reaches m r a → (r.entry ≤ a) × (a < r.entry + r.size)
-reached_bounds m r a h =
-    let p = and_parts (nat_le r.entry a) (nat_lt a (r.entry + r.size)) (reached_inside m r a h) in
-    (leb-true r.entry a p.0, ltb-true a (r.entry + r.size) p.1)
+reached_bounds m r a h = inside_bounds r a (reached_inside m r a h)
 
 -- ---- the least place
 
@@ -296,17 +285,17 @@ module _ (m : List Segment) (r : Range) (keys : List ℕ) (lists : List (List �
     all_listed = subst (λ ks. AllZip (HasSuccessors m r) ks w.addresses) all_passed w.listed
 
     -- what the place k leads to is found
-    leads : (k a n b : ℕ) (i : Inst) → k < length keys → get_or keys k a ≡ a → BeginsAt m r a i n → Contains (successors_of i a (next_of a n)) b → is_inside r b ≡ true → Has keys b
-    leads k a n b i lt at begins s inside =
+    leads : (k a b : ℕ) (all : List ℕ) → k < length keys → get_or keys k a ≡ a → AreSuccessors m r a all → Contains all b → is_inside r b ≡ true → Has keys b
+    leads k a b all lt at are s inside =
         let p = zip_at (HasSuccessors m r) keys w.addresses k a [] all_listed lt in
         let here : HasSuccessors m r a (get_or w.addresses k []) = subst (λ x. HasSuccessors m r x (get_or w.addresses k [])) at p.1 in
-        named_found b (in_concat w.addresses k b p.0 (next_there m r a n b i (get_or w.addresses k []) begins s inside here))
+        named_found b (in_concat w.addresses k b p.0 (next_there m r a b all (get_or w.addresses k []) are s inside here))
 
     pub complete : (a : ℕ) → Reaches m r a → Has keys a
     complete _ (reach.entry h) = subst (λ l. Has l r.entry) w.order (has_all (r.entry ∷ concat w.addresses) [] r.entry (has_left (r.entry ∷ []) (concat w.addresses) r.entry (has_one r.entry)))
-    complete _ (reach.along a n b i h begins s inside) =
+    complete _ (reach.along a b all h are s inside) =
         let there = has_contains keys a (complete a h) in
-        leads there.0 a n b i there.1 there.2 begins s inside
+        leads there.0 a b all there.1 there.2 are s inside
 
     pub discovered : (g : Digraph) → g ≡ record { entry = 0; succ = lists } → IsDiscovered m r keys g
     discovered g is = record {

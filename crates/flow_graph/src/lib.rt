@@ -8,6 +8,7 @@ mod laws;
 mod place;
 mod range_code;
 mod sites;
+mod successors;
 #[cfg(test)]
 mod tests;
 mod walk;
@@ -15,3 +16,4 @@ mod walk;
 pub use discovery::discover;
 pub use laws::{nodes_are_their_places, one_discovery, one_place};
 pub use place::{Cause, FlowFault, Found, Place};
+pub use successors::{instruction_successors, window_successors};

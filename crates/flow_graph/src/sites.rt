@@ -1,59 +1,25 @@
 //! What stands at an address of a range.
 
-ghost use Rattle.std.specs.Prelude.{◌≡◌, ◌∷◌, [], filter, if◌then◌else◌, IfOk};
+ghost use Rattle.std.specs.Prelude.{◌≡◌, true, filter, IfOk, None};
 ghost use Rattle.elf_image.specs.Range.{is_inside};
 ghost use Rattle.x86_model.specs.Rows.{is_bare};
-ghost use Rattle.x86_model.specs.Successors.{successors_of};
-ghost use Rattle.x86_model.specs.WideRows.{repeats};
-ghost use Rattle.flow_graph.specs.Sites.{call_cause, cause_of, found_successors, found_cause};
+ghost use Rattle.jump_tables.specs.Window.{window_successors as successors_of_window};
+ghost use Rattle.flow_graph.specs.Sites.{call_cause, cause_of, found_successors, found_cause, IsCode, IsSite};
 
 use crate::place::Cause;
-use elf_image::Range;
+use crate::successors::{instruction_successors, window_successors};
+use elf_image::{Image, Range};
+use jump_tables::{TableWindow, window};
 use smallvec::SmallVec;
 use std::alloc::{AllocError, Global};
-use x86_decode::Decoded;
-use x86_inst::{Inst, Operand, Rep, Seg};
+use x86_decode::{Decoded, decode};
+use x86_inst::{Inst, Operand, Seg};
 
 /// What stands at an address: the successors that are inside, in order, and the cause to refuse the function.
 #[derive(Drop)]
 pub(crate) struct Site {
     pub(crate) successors: SmallVec<u32, 2>,
     pub(crate) cause: Option<Cause>,
-}
-
-// The successors of a string instruction.
-fn string_successors(
-    alloc: Global,
-    repeat: Rep,
-    at: u32,
-    next: u32,
-) -> Result<SmallVec<u32, 2>, AllocError>
-    ensures { IfOk result (λ v. v.items ≡ (if repeats repeat then at ∷ next ∷ [] else next ∷ [])) }
-{
-    match repeat {
-        Rep::No => SmallVec::from_slice(alloc, &[next]),
-        Rep::Rep | Rep::Repe | Rep::Repne => SmallVec::from_slice(alloc, &[at, next]),
-    }
-}
-
-// The successors of an instruction at an address, with the next one.
-fn all_successors(
-    alloc: Global,
-    i: Inst,
-    at: u32,
-    next: u32,
-) -> Result<SmallVec<u32, 2>, AllocError>
-    ensures { IfOk result (λ v. v.items ≡ successors_of i at next) }
-{
-    match i {
-        Inst::Jcc(_, distance) | Inst::Loop(distance) | Inst::Jecxz(distance) => {
-            SmallVec::from_slice(alloc, &[next.wrapping_add(distance), next])
-        }
-        Inst::Jmp(distance) => SmallVec::from_slice(alloc, &[next.wrapping_add(distance)]),
-        Inst::JmpTo(_) | Inst::Ret(_) | Inst::Trap(_) => Ok(SmallVec::new(alloc)),
-        Inst::Str(_, _, repeat, _) => string_successors(alloc, repeat, at, next),
-        _ => SmallVec::from_slice(alloc, &[next]),
-    }
 }
 
 // Those of some addresses that are inside.
@@ -107,20 +73,15 @@ fn cause_of(r: Range, i: Inst, next: u32) -> Option<Cause>
     }
 }
 
-/// What stands at an address, by what begins there.
-pub(crate) fn site_of(
-    alloc: Global,
-    r: Range,
-    at: u32,
-    decoded: Decoded,
-) -> Result<Site, AllocError>
+// What stands at an address without a window, by what begins there.
+fn instruction_site(alloc: Global, r: Range, at: u32, decoded: Decoded) -> Result<Site, AllocError>
     ensures successors { IfOk result (λ s. s.successors.items ≡ found_successors r at decoded) }
     ensures cause { IfOk result (λ s. s.cause ≡ found_cause r at decoded) }
 {
     match decoded {
         Decoded::Inst(i, n) => {
             let next = at.wrapping_add(u32::from(n));
-            let all = all_successors(alloc, i, at, next)?;
+            let all = instruction_successors(alloc, i, at, next)?;
             let successors = inside_of(alloc, r, &all)?;
             let cause = cause_of(r, i, next);
             Ok(Site { successors, cause })
@@ -133,5 +94,39 @@ pub(crate) fn site_of(
             successors: SmallVec::new(alloc),
             cause: Some(Cause::Instruction),
         }),
+    }
+}
+
+// What stands at the address of a window.
+fn window_site(alloc: Global, m: &Image, r: Range, w: &TableWindow) -> Result<Site, AllocError>
+    ensures successors { IfOk result (λ s. s.successors.items ≡ filter (is_inside r) (successors_of_window m.now w.now)) }
+    ensures cause { IfOk result (λ s. s.cause ≡ None) }
+{
+    let all = window_successors(alloc, m, w)?;
+    let successors = inside_of(alloc, r, &all)?;
+    Ok(Site {
+        successors,
+        cause: None,
+    })
+}
+
+/// What stands at an address of a range with its code: a window, or else what begins there.
+pub(crate) fn site_at(
+    alloc: Global,
+    m: &Image,
+    r: &Range,
+    code: &[u8],
+    at: u32,
+) -> Result<Site, AllocError>
+    requires code { IsCode m.now r.now code.now }
+    requires inside { is_inside r.now at ≡ true }
+    ensures { IfOk result (λ s. IsSite m.now r.now at s.successors.items s.cause) }
+{
+    match window(m, r, at) {
+        Some(w) => window_site(alloc, m, *r, &w),
+        None => {
+            let decoded = decode(&code[(at - r.entry) as usize..]);
+            instruction_site(alloc, *r, at, decoded)
+        }
     }
 }

@@ -8,29 +8,77 @@ use std::test::Fail;
 
 const BASE: u32 = 0x0804_8100;
 
-// A header, one program header at place 52, zeros up to place 0x100 and the code there, which is loaded at BASE.
-fn image(alloc: Global, code: &[u8]) -> Result<Image, Fail> {
+const TABLE: u32 = 0x0804_9000;
+
+// A program header: so many bytes of the file from a place on are loaded at an address.
+fn segment(place: u32, address: u32, size: u32, flags: u32) -> [u32; 8] {
+    [1, place, address, address, size, size, flags, 4096]
+}
+
+// A header, program headers from place 52 on, zeros up to place 0x100 and the code there, which is loaded at BASE.
+fn file(alloc: Global, code: &[u8], more: &[[u32; 8]]) -> Result<Vec<u8>, Fail> {
     let size = u32::try_from(0x100 + code.len())?;
-    let header = [0x0003_0002, 1, BASE, 52, 0, 0, 0x0020_0034, 1, 0];
-    let segment = [1, 0, 0x0804_8000, 0x0804_8000, size, size, 5, 4096];
+    let count = u32::try_from(1 + more.len())?;
+    let header = [0x0003_0002, 1, BASE, 52, 0, 0, 0x0020_0034, count, 0];
     let mut bytes = Vec::from_slice(alloc, b"\x7fELF\x01\x01\x01\0\0\0\0\0\0\0\0\0")?;
     for word in header {
         bytes.extend_from_slice(&u32::to_le_bytes(word))?;
     }
-    for word in segment {
+    for word in segment(0, 0x0804_8000, size, 5) {
         bytes.extend_from_slice(&u32::to_le_bytes(word))?;
+    }
+    for word in more.iter().flatten() {
+        bytes.extend_from_slice(&u32::to_le_bytes(*word))?;
     }
     bytes.resize(0x100, 0)?;
     bytes.extend_from_slice(code)?;
-    match Image::read(alloc, &bytes) {
-        Ok(m) => Ok(m),
+    Ok(bytes)
+}
+
+fn found_in(alloc: Global, bytes: &[u8], size: u32) -> Result<Result<Found, FlowFault>, Fail> {
+    match Image::read(alloc, bytes) {
+        Ok(m) => Ok(discover(alloc, &m, &Range::new(BASE, size))),
         Err(_) => Err(Fail::from(AllocError)),
     }
 }
 
 fn found(alloc: Global, code: &[u8], size: u32) -> Result<Result<Found, FlowFault>, Fail> {
-    let m = image(alloc, code)?;
-    Ok(discover(alloc, &m, &Range::new(BASE, size)))
+    let bytes = file(alloc, code, &[])?;
+    found_in(alloc, &bytes, size)
+}
+
+// EAX is compared with 2, a branch by the condition leads past a jump through the table at TABLE, and there EAX is
+// cleared before the return.
+fn found_by_table(
+    alloc: Global,
+    condition: u8,
+    table: &[u32],
+    flags: u32,
+) -> Result<Result<Found, FlowFault>, Fail> {
+    let code = [
+        0x83,
+        0xf8,
+        2,
+        0x70 + condition,
+        7,
+        0xff,
+        0x24,
+        0x85,
+        0,
+        0x90,
+        4,
+        8,
+        0x31,
+        0xc0,
+        0xc3,
+    ];
+    let size = u32::try_from(4 * table.len())?;
+    let mut bytes = file(alloc, &code, &[segment(0x1000, TABLE, size, flags)])?;
+    bytes.resize(0x1000, 0)?;
+    for word in table {
+        bytes.extend_from_slice(&u32::to_le_bytes(*word))?;
+    }
+    found_in(alloc, &bytes, 15)
 }
 
 // The edges of a graph, in order.
@@ -112,6 +160,45 @@ fn names_the_place(rt: HostRuntime) -> Result<(), Fail> {
         };
         assert!(rt; fault == FlowFault::Outside(Place { at, cause }));
         assert_eq!(rt; cause.number(), number);
+    }
+    Ok(())
+}
+
+#[test]
+fn follows_a_table(rt: HostRuntime) -> Result<(), Fail> {
+    let alloc = rt.alloc();
+    let table = [BASE + 12, BASE + 14, BASE + 12];
+    let rows: [(u8, &[u32], &[(u32, u32)]); 2] = [
+        // Above: the default, and three entries.
+        (7, &table, &[(0, 1), (0, 1), (0, 2), (0, 1), (1, 2)]),
+        // Above or equal: the default, and two entries.
+        (3, &table[..2], &[(0, 1), (0, 1), (0, 2), (1, 2)]),
+    ];
+    for (condition, table, graph) in rows {
+        let Ok(answer) = found_by_table(alloc, condition, table, 4)? else {
+            return Err(Fail::from(AllocError));
+        };
+        assert_eq!(rt; answer.places.as_slice(), [BASE, BASE + 12, BASE + 14].as_slice());
+        assert!(rt; edges(alloc, &answer.graph)?.as_slice() == graph);
+    }
+    Ok(())
+}
+
+#[test]
+fn refuses_a_table(rt: HostRuntime) -> Result<(), Fail> {
+    let alloc = rt.alloc();
+    let table = [BASE + 12, BASE + 14, BASE + 12];
+    // A table that can be written, and one that is too short.
+    let rows: [(&[u32], u32); 2] = [(&table, 6), (&table[..2], 4)];
+    for (table, flags) in rows {
+        let Err(fault) = found_by_table(alloc, 7, table, flags)? else {
+            return Err(Fail::from(AllocError));
+        };
+        let place = Place {
+            at: BASE + 5,
+            cause: Cause::IndirectJump,
+        };
+        assert!(rt; fault == FlowFault::Outside(place));
     }
     Ok(())
 }

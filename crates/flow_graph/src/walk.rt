@@ -3,15 +3,13 @@
 ghost use Rattle.std.specs.Prelude.{◌≡◌, ◌+◌, ◌^◌, ◌<◌, ◌≤◌, ◌∷◌, [], ◌++◌, fold, map, length, slice_get, None, IfOk, OnOk, IfErr};
 ghost use Rattle.flow_graph.specs.Discovery.{with_new, number_in};
 ghost use Rattle.flow_graph.specs.Place.{Names};
-ghost use Rattle.flow_graph.specs.Sites.{found_successors, found_cause, lesser, least_with};
+ghost use Rattle.flow_graph.specs.Sites.{lesser, least_with};
 
 use crate::place::{Cause, FlowFault, Found, Place};
-use crate::sites::site_of;
-use elf_image::Range;
+use crate::sites::Site;
 use graph_order::{Graph, NodeId};
 use indexmap::IndexSet;
 use std::alloc::{AllocError, Global};
-use x86_decode::Decoded;
 
 /// The places that were found so far, the successors of the first of them by their numbers, and the least of these
 /// that has a cause.
@@ -89,20 +87,13 @@ impl Walk {
         self.places.get_index(self.lists.len()).copied()
     }
 
-    /// The walk after the place that waits, by what begins there.
-    pub(crate) fn visit(
-        &mut self,
-        alloc: Global,
-        r: Range,
-        at: u32,
-        decoded: Decoded,
-    ) -> Result<(), AllocError>
-        requires { length self.old.places.keys + length (found_successors r at decoded) ≤ 2 ^ 32 }
-        ensures places { OnOk result (self.new.places.keys ≡ fold with_new self.old.places.keys (found_successors r at decoded)) }
-        ensures lists { OnOk result (map (λ l. l.items) self.new.lists.items ≡ map (λ l. l.items) self.old.lists.items ++ map (number_in self.new.places.keys) (found_successors r at decoded) ∷ []) }
-        ensures named { OnOk result (self.new.named ≡ least_with self.old.named at (found_cause r at decoded)) }
+    /// The walk after the place that waits, by what stands there.
+    pub(crate) fn visit(&mut self, alloc: Global, at: u32, site: Site) -> Result<(), AllocError>
+        requires { length self.old.places.keys + length site.successors.items ≤ 2 ^ 32 }
+        ensures places { OnOk result (self.new.places.keys ≡ fold with_new self.old.places.keys site.successors.items) }
+        ensures lists { OnOk result (map (λ l. l.items) self.new.lists.items ≡ map (λ l. l.items) self.old.lists.items ++ map (number_in self.new.places.keys) site.successors.items ∷ []) }
+        ensures named { OnOk result (self.new.named ≡ least_with self.old.named at site.cause) }
     {
-        let site = site_of(alloc, r, at, decoded)?;
         let numbers = numbers_of(alloc, &mut self.places, &site.successors)?;
         self.lists.push(numbers)?;
         self.named = least_with(self.named, at, site.cause);

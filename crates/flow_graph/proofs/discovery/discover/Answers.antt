@@ -11,19 +11,9 @@ use Rattle.flow_graph.specs.Place.{range_place, HasNoPlace, HasNoText, Names}
 use Rattle.flow_graph.specs.Discovery.{IsDiscovered}
 use Rattle.std.specs.Prelude.{slice_get}
 use Rattle.flow_graph.proofs.Frozen.{entry_inside}
-use Rattle.flow_graph.proofs.Walked.{IsWalked, begins_walk, waiting_reached, reached_bounds, few_found, fewer_lists, turn, discovered, no_place, named_place}
-use Rattle.flow_graph.proofs.Reading.{decoded_at, decoded_successors, decoded_cause, few_successors}
+use Rattle.flow_graph.proofs.Walked.{IsWalked, begins_walk, waiting_reached, reached_inside, few_found, fewer_lists, turn, discovered, no_place, named_place}
+use Rattle.flow_graph.specs.Sites.{IsCode}
 use Rattle.flow_graph.proofs.discovery.discover.Goals as goal
-
--- a place that waits is inside
-bounds : (m : List Segment) (r : Range) (keys : List ℕ) (lists : List (List ℕ)) (named : Option Place) (n at : ℕ) → IsWalked m r keys lists named → Some at ≡ slice_get keys n
-    → (r.entry ≤ at) × (at < r.entry + r.size)
-bounds m r keys lists named n at w h = reached_bounds m r at (waiting_reached m r keys lists named w n at (sym h))
-
-same_rest : (slice code : List ℕ) (k : ℕ) → slice ≡ code → take (length slice - k) (drop k slice) ≡ drop k code
-same_rest slice code k e =
-    let whole : take (length slice - k) (drop k slice) ≡ drop k slice = take_all (length slice - k) (drop k slice) (omega (arith, length-drop k slice)) in
-    whole ∙ ap (drop k) e
 
 -- the lists in a vector of vectors
 abbrev inner : List (Vec NodeId Global) → List (List ℕ)
@@ -72,26 +62,22 @@ loop-at-init c =
     let w = c.in_ok-walk.ensures {u = tt} in
     rw (w.places, w.lists, w.named) (begins_walk c.args.m.now c.args.r.now (entry_inside c.args.r.now f.some))
 
-pub overflow_sub-at : goal.overflow_sub-at
-overflow_sub-at c = (bounds c.args.m.now c.args.r.now c.loop-at.walk.places.keys _ c.loop-at.walk.named _ c.in-Some.at c.loop-at.invariant (c.in-Some.ensures {u = tt})).0
-
-pub slice_bounds-decode-count : goal.slice_bounds-decode-count
-slice_bounds-decode-count c =
-    let b = bounds c.args.m.now c.args.r.now c.loop-at.walk.places.keys _ c.loop-at.walk.named _ c.in-Some.at c.loop-at.invariant (c.in-Some.ensures {u = tt}) in
+pub site_at-requires-clause-code : goal.site_at-requires-clause-code
+site_at-requires-clause-code c =
     let f = c.in_ok-code.ensures {u = tt} in
-    omega (arith, b.0, b.1, ap length c.deref.ensures.value, f.len)
+    let code : IsCode c.args.m.now c.args.r.now c.in_ok-code.code.items = record { code_is = f.code; whole = f.len; fits = f.fits } in
+    subst (IsCode c.args.m.now c.args.r.now) (sym c.deref.ensures.value) code
 
-pub slice_bounds-decode-start : goal.slice_bounds-decode-start
-slice_bounds-decode-start c =
-    let b = bounds c.args.m.now c.args.r.now c.loop-at.walk.places.keys _ c.loop-at.walk.named _ c.in-Some.at c.loop-at.invariant (c.in-Some.ensures {u = tt}) in
-    let f = c.in_ok-code.ensures {u = tt} in
-    let le : c.in-Some.at - c.args.r.now.entry ≤ length c.deref.result.now = omega (arith, b.0, b.1, ap length c.deref.ensures.value, f.len) in
-    search rules
+pub site_at-requires-clause-inside : goal.site_at-requires-clause-inside
+site_at-requires-clause-inside c =
+    let m = c.args.m.now in
+    let r = c.args.r.now in
+    reached_inside m r c.in-Some.at (waiting_reached m r c.loop-at.walk.places.keys _ c.loop-at.walk.named c.loop-at.invariant _ c.in-Some.at (sym (c.in-Some.ensures {u = tt})))
 
 pub visit-requires : goal.visit-requires
 visit-requires c =
     let f = c.in_ok-code.ensures {u = tt} in
-    omega (arith, f.few, few_found c.args.m.now c.args.r.now c.loop-at.walk.places.keys _ c.loop-at.walk.named c.loop-at.invariant, few_successors c.args.r.now c.in-Some.at c.decode-decoded.result)
+    omega (arith, f.few, few_found c.args.m.now c.args.r.now c.loop-at.walk.places.keys _ c.loop-at.walk.named c.loop-at.invariant, (c.in_ok-site.ensures {u = tt}).few)
 
 pub loop-at-smaller : goal.loop-at-smaller
 loop-at-smaller c =
@@ -104,18 +90,15 @@ loop-at-smaller c =
 
 pub loop-at-preserved : goal.loop-at-preserved
 loop-at-preserved c =
-    let f = c.in_ok-code.ensures {u = tt} in
+    let s = c.in_ok-site.ensures {u = tt} in
     let v = c.in_ok-visit.ensures {u = tt} in
     let w = c.loop-at.invariant in
     let m = c.args.m.now in
     let r = c.args.r.now in
     let keys = c.loop-at.walk.places.keys in
     let at = c.in-Some.at in
-    let b = bounds m r keys _ c.loop-at.walk.named _ at w (c.in-Some.ensures {u = tt}) in
-    let d = decoded_at m r c.in_ok-code.code.items _ at c.decode-decoded.result (record { code_is = f.code; whole = f.len; fits = f.fits }) b.0 b.1
-    (same_rest c.deref.result.now c.in_ok-code.code.items (at - r.entry) c.deref.ensures.value) c.decode-decoded.ensures in
     let waits : slice_get keys (length (inner c.loop-at.walk.lists.items)) ≡ Some at = ap (slice_get keys) (as_many c.loop-at.walk.lists.items) ∙ sym (c.in-Some.ensures {u = tt}) in
-    turn m r keys _ c.loop-at.walk.named w _ _ _ at _ _ waits (decoded_successors m r at c.decode-decoded.result d) (decoded_cause m r at c.decode-decoded.result d) v.places v.lists v.named
+    turn m r keys _ c.loop-at.walk.named w _ _ _ at _ _ waits s.listed s.causes v.places v.lists v.named
 
 pub finish-requires : goal.finish-requires
 finish-requires c =
