@@ -22,8 +22,9 @@ use Rattle.x86_decode.proofs.Decoding.{again}
 use Rattle.machine.specs.Code.{BeginsAt}
 use Rattle.jump_tables.specs.Forms.{Index, Known, is_on_path, at_first, after, after_all, table_of}
 use Rattle.jump_tables.specs.Window.{Split, split, next_of, split_of, is_place, IsPath, IsWindow, IsWindowAt, IsInstAt}
-use Rattle.jump_tables.specs.Found.{as_found, found, comparison_of, branch_of, Comparison, comparison_at, split_by, split_at, goal_of, unless_jump, jump_from, all_frozen, window_by, window_from, window_found}
+use Rattle.jump_tables.specs.Found.{as_found, found, comparison_of, branch_of, comparison_at, split_by, split_at, goal_of, unless_jump, jump_from, all_frozen, window_by, window_from, window_found}
 use Rattle.jump_tables.specs.declared.table.TableWindow.{TableWindow}
+use Rattle.jump_tables.specs.declared.windows.Comparison.{Comparison}
 
 -- ---- steps that may fail
 

@@ -2,3 +2,5 @@ mod Finding
 mod Standing
 mod Fronts
 mod Tables
+mod Registers
+mod Steps

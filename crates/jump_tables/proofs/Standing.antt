@@ -16,9 +16,10 @@ use Rattle.x86_model.specs.Operands.{bits_of}
 use Rattle.machine.specs.Code.{BeginsAt}
 use Rattle.jump_tables.specs.Forms.{Index, at_first}
 use Rattle.jump_tables.specs.Window.{Split, split, next_of, split_of, is_place, IsWindow, HasNoWindow, IsWindowAt}
-use Rattle.jump_tables.specs.Found.{found, comparison_of, branch_of, Comparison, comparison_at, split_by, split_at, jump_from, all_frozen, window_by, window_from, window_found}
+use Rattle.jump_tables.specs.Found.{found, comparison_of, branch_of, comparison_at, split_by, split_at, jump_from, all_frozen, window_by, window_from, window_found}
 use Rattle.jump_tables.specs.Laws.{OneWindow}
 use Rattle.jump_tables.specs.declared.table.TableWindow.{TableWindow}
+use Rattle.jump_tables.specs.declared.windows.Comparison.{Comparison}
 use Rattle.jump_tables.proofs.Finding.{then_some, map_some, if_some, begins_found, found_begins, Leads, jump_leads, path_found}
 
 -- ---- the table

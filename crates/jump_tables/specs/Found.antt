@@ -17,6 +17,7 @@ use Rattle.x86_model.specs.Operands.{bits_of}
 use Rattle.jump_tables.specs.Forms.{Index, Known, is_on_path, at_first, after, table_of}
 use Rattle.jump_tables.specs.Window.{Split, next_of, split_of, is_place}
 use Rattle.jump_tables.specs.declared.table.TableWindow.{TableWindow}
+use Rattle.jump_tables.specs.declared.windows.Comparison.{Comparison}
 
 -- ---- the instruction at an address
 
@@ -41,12 +42,7 @@ abbrev pub branch_of : Inst → Option (ℕ × ℕ)
 branch_of (i.Jcc c distance) = Some (c.0, distance)
 branch_of _ = None
 
--- a comparison that begins at an address, and the address after it
-pub record Comparison : Type 0 where
-  pub index : Index
-  pub bound : ℕ
-  pub next : ℕ
-
+-- the comparison that begins at an address
 unfoldable pub comparison_at : List Segment → Range → ℕ → Option Comparison
 comparison_at m r a =
     option_and_then (λ d. option_map (λ c. record { index = c.0; bound = c.1; next = next_of a d.1 }) (comparison_of d.0)) (found m r a)

@@ -1,17 +1,18 @@
 //! What is known at a place of a path.
 
-ghost use Rattle.std.specs.Prelude.{◌≡◌, ◌<◌, ℕ, true, false, slice_index_or, IfSome};
+ghost use Rattle.std.specs.Prelude.{◌≡◌, ◌<◌, ℕ, true, false, IfSome};
 ghost use Rattle.x86_inst.specs.declared.Size.TheVariants.{W};
 ghost use Rattle.x86_inst.specs.declared.Inst.TheVariants as inst;
 ghost use Rattle.x86_formed.specs.Formed.{is_formed, is_formed_operand};
 ghost use Rattle.jump_tables.specs.Known.{forms_of, known_of};
-ghost use Rattle.jump_tables.specs.Forms.{same_operand, is_on_path, whole, whole_of, written, is_part_of, form_or_zero, address_form, is_plain, memory_table, reads_again, moved_form, form_after, at_first, after, table_of};
+ghost use Rattle.jump_tables.specs.Forms.{same_operand, is_on_path, whole, whole_of, written, is_part_of, form_or_zero, address_form, is_plain, memory_table, reads_again, moved_form, form_after, with_form, at_first, after, table_of};
 
 use crate::forms::Form;
 use std::marker::Model;
 use x86_inst::{AluOp, Count, Inst, Mem, Operand, Seg, ShiftOp, Size};
 
 /// The index: an operand of a size.
+#[derive(Drop)]
 pub(crate) struct Index {
     pub(crate) size: Size,
     pub(crate) operand: Operand,
@@ -27,6 +28,7 @@ impl Model for Index {
 
 /// What is known at a place of a path: the form of each 32-bit register, and whether no part of the index's register, or
 /// of a register of its address, has been written.
+#[derive(Clone, Copy)]
 pub(crate) struct Known {
     forms: [Form; 8],
     is_kept: bool,
@@ -207,6 +209,48 @@ impl Known {
                 self.form(d).plus(v)
             }
             _ => Form::Unknown,
+        }
+    }
+
+    // The registers' forms with another one of a register, if one is written.
+    fn with_form(&self, register: Option<u8>, form: Form) -> [Form; 8]
+        requires { IfSome register (λ r. r < 8) }
+        ensures { forms_of result ≡ with_form (forms_of self.now.forms) register form }
+    {
+        let mut forms = self.forms;
+        if let Some(r) = register {
+            forms[usize::from(r)] = form;
+        }
+        forms
+    }
+
+    /// What is known after an instruction of a path.
+    pub(crate) fn after(&self, index: &Index, inst: Inst) -> Known
+        requires { is_formed inst ≡ true }
+        ensures { known_of result ≡ after index.now (known_of self.now) inst }
+    {
+        let register = written(inst);
+        Known {
+            forms: self.with_form(register, self.form_after(index, inst)),
+            is_kept: self.is_kept && !is_part_of(index.size, &index.operand, register),
+        }
+    }
+
+    /// What is known at first: the index, where it is a 32-bit register.
+    pub(crate) fn at_first(index: &Index) -> Known
+        requires { is_formed_operand index.now.operand ≡ true }
+        ensures { known_of result ≡ at_first index.now }
+    {
+        let nothing = Known {
+            forms: [Form::Unknown; 8],
+            is_kept: true,
+        };
+        match (index.size, index.operand) {
+            (Size::W, Operand::Reg(r)) => Known {
+                forms: nothing.with_form(Some(r), Form::Scaled(1, 0)),
+                is_kept: true,
+            },
+            _ => nothing,
         }
     }
 }
