@@ -4,3 +4,5 @@ pub mod Registers
 pub mod Operands
 pub mod Moves
 pub mod Paths
+pub mod Branches
+pub mod Tables

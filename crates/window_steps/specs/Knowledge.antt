@@ -1,5 +1,5 @@
 -- What is known of a state at a place of a window's path, when the index had a value at its comparison.
-use Rattle.std.specs.Prelude.{◌≡◌, ℕ, ◌+◌, ◌*◌, ◌%◌, ◌^◌, ◌<◌, true}
+use Rattle.std.specs.Prelude.{◌≡◌, ℕ, ◌+◌, ◌*◌, ◌%◌, ◌^◌, ◌<◌, ◌==◌, ◌||◌, Bool, true}
 use Rattle.dream_words.specs.Memory.{Mem, load, bytes_of}
 use Rattle.dream_words.specs.Registers.{reg_of}
 use Rattle.dream_words.specs.Words.{low_part}
@@ -29,3 +29,7 @@ Says mem i form.Unknown v = Unit {0}
 pub record Holds (x : Index) (i : ℕ) (k : Known) (s : State) : Type 0 where
   pub forms : (n : ℕ) → n < 8 → Says s.mem i (k.forms n) (reg_of s.regs n)
   pub kept : k.is_kept ≡ true → value_in x.size x.operand s ≡ i
+
+-- A and AE go to their target for an index that is too great, and BE and B for the others.
+abbrev pub is_above : ℕ → Bool
+is_above condition = condition == 7 || condition == 3
