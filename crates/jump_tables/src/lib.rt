@@ -4,7 +4,12 @@
 #![tactic(auto)]
 
 mod forms;
+mod known;
+mod laws;
+mod reading;
 mod table;
 
 pub use forms::Form;
+pub use laws::one_window;
+pub use reading::inst_at;
 pub use table::TableWindow;

@@ -1,0 +1,4 @@
+mod Finding
+mod Standing
+mod Fronts
+mod Tables
