@@ -73,5 +73,5 @@ pub first_is : (x : Index) (r : ℕ) (forms : List Form) → x.size ≡ W → x.
     → known_of (record { forms = forms; is_kept = true }) ≡ at_first x
 first_is x r forms size operand e =
     let f : forms_of forms ≡ first_forms x.size x.operand =
-        e ∙ ap (λ (g : Forms). with_form g (Some r) (form.Scaled 1 0)) none_is ∙ sym (ap (λ (s : Size). first_forms s x.operand) size ∙ ap (first_forms W) operand) in
+    e ∙ ap (λ (g : Forms). with_form g (Some r) (form.Scaled 1 0)) none_is ∙ sym (ap (λ (s : Size). first_forms s x.operand) size ∙ ap (first_forms W) operand) in
     λ t. record { forms = f t; is_kept = true }

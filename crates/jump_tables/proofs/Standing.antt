@@ -33,9 +33,9 @@ all_are m t zero k h lt = absurd (omega (arith, lt))
 all_are m t (suc n) k h lt =
     let p = and_parts (all_frozen m t n) (is_some (frozen_byte m ((t + n) % 2 ^ 32))) h in
     elim (cases_lt k n) [
-  | inl less ↦ all_are m t n k p.0 less
-  | inr le ↦ (let e : n ≡ k = omega (arith, lt, le) in subst (λ j. (b : ℕ) × (frozen_byte m ((t + j) % 2 ^ 32) ≡ Some b)) e (frozen_more m t n (frozen_byte m ((t + n) % 2 ^ 32)) refl p.1))
-]
+      | inl less ↦ all_are m t n k p.0 less
+      | inr le ↦ (let e : n ≡ k = omega (arith, lt, le) in subst (λ j. (b : ℕ) × (frozen_byte m ((t + j) % 2 ^ 32) ≡ Some b)) e (frozen_more m t n (frozen_byte m ((t + n) % 2 ^ 32)) refl p.1))
+    ]
 
 pub are_all : (m : List Segment) (t n : ℕ) → ((k : ℕ) → k < n → (b : ℕ) × (frozen_byte m ((t + k) % 2 ^ 32) ≡ Some b)) → all_frozen m t n ≡ true
 are_all m t zero h = refl
@@ -62,7 +62,7 @@ table_found : (m : List Segment) (w : TableWindow) → 1 ≤ w.count → w.count
 table_found m w some most h =
     ap (λ (t : Bool). if t then Some w else None)
     (and_from (nat_lt 0 w.count) (nat_lt w.count 1025 && all_frozen m w.table (4 * w.count)) (lt-ltb 0 w.count (omega (arith, some)))
-        (and_from (nat_lt w.count 1025) (all_frozen m w.table (4 * w.count)) (lt-ltb w.count 1025 (omega (arith, most))) h))
+    (and_from (nat_lt w.count 1025) (all_frozen m w.table (4 * w.count)) (lt-ltb w.count 1025 (omega (arith, most))) h))
 
 pub window_is_found : (m : List Segment) (r : Range) (a : ℕ) (w : TableWindow) → IsWindow m r a w → window_found m r a ≡ Some w
 unfolding window_found window_from
@@ -71,8 +71,8 @@ window_is_found m r a w h =
     let s : Split = split w.default w.path w.count in
     rw (comparison_found m r a h.index h.bound h.compare_size h.compares h.place)
     (rw (split_found m r c h.condition h.distance h.branch_size s h.branches h.splits)
-        (rw (path_found m r h.index 5 (at_first h.index) w.path (w.jump, w.table) h.insts h.goal h.jump_size h.path (omega (arith, h.few)) h.jumps h.through)
-            (table_found m w h.some h.most (are_all m w.table (4 * w.count) h.entries))))
+    (rw (path_found m r h.index 5 (at_first h.index) w.path (w.jump, w.table) h.insts h.goal h.jump_size h.path (omega (arith, h.few)) h.jumps h.through)
+    (table_found m w h.some h.most (are_all m w.table (4 * w.count) h.entries))))
 
 pub one_window : OneWindow
 one_window m r a w v h k =

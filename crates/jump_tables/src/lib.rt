@@ -6,6 +6,7 @@
 mod forms;
 mod known;
 mod laws;
+mod path;
 mod reading;
 mod table;
 mod windows;
@@ -15,3 +16,6 @@ pub use laws::one_window;
 pub use reading::inst_at;
 pub use table::TableWindow;
 pub use windows::window;
+
+#[cfg(test)]
+mod tests;

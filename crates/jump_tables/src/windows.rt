@@ -8,7 +8,8 @@ ghost use Rattle.jump_tables.specs.Forms.{at_first};
 ghost use Rattle.jump_tables.specs.Window.{split_of, IsWindowAt};
 ghost use Rattle.jump_tables.specs.Found.{found, comparison_of, branch_of, comparison_at, split_at, goal_of, jump_from, window_from};
 
-use crate::known::{Index, Known, is_on_path};
+use crate::known::{Index, Known};
+use crate::path::is_on_path;
 use crate::reading::inst_at;
 use crate::table::{TableWindow, is_frozen};
 use dream_words::low;

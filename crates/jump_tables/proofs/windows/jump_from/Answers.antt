@@ -32,9 +32,9 @@ returns-in_err-table c =
     let none : c.from_residual-in_err-table.result ≡ None = search rules in
     let left : 5 - c.loop-step._step ≡ suc n = omega (arith, c.loop-step-test.true) in
     none ∙ sym (
-      c.loop-step.invariant ∙ ap (λ j. jump_from m r x j k a) left
-      ∙ jump_here m r x n k a (inst, size) goal (sym c.formed_at.ensures.found ∙ c.in_ok-inst.was) (sym c.goal_of.ensures ∙ c.in-Some.is)
-      ∙ ap (option_map (λ t. (a, t))) (sym c.table.ensures ∙ c.in_err-table.was)
+    c.loop-step.invariant ∙ ap (λ j. jump_from m r x j k a) left
+    ∙ jump_here m r x n k a (inst, size) goal (sym c.formed_at.ensures.found ∙ c.in_ok-inst.was) (sym c.goal_of.ensures ∙ c.in-Some.is)
+    ∙ ap (option_map (λ t. (a, t))) (sym c.table.ensures ∙ c.in_err-table.was)
     )
 
 pub returns-in-Some : goal.returns-in-Some
@@ -50,9 +50,9 @@ returns-in-Some c =
     let goal = c.in-Some.goal in
     let left : 5 - c.loop-step._step ≡ suc n = omega (arith, c.loop-step-test.true) in
     sym (
-      c.loop-step.invariant ∙ ap (λ j. jump_from m r x j k a) left
-      ∙ jump_here m r x n k a (inst, size) goal (sym c.formed_at.ensures.found ∙ c.in_ok-inst.was) (sym c.goal_of.ensures ∙ c.in-Some.is)
-      ∙ ap (option_map (λ t. (a, t))) (sym c.table.ensures ∙ c.in_ok-table.was)
+    c.loop-step.invariant ∙ ap (λ j. jump_from m r x j k a) left
+    ∙ jump_here m r x n k a (inst, size) goal (sym c.formed_at.ensures.found ∙ c.in_ok-inst.was) (sym c.goal_of.ensures ∙ c.in-Some.is)
+    ∙ ap (option_map (λ t. (a, t))) (sym c.table.ensures ∙ c.in_ok-table.was)
     )
 
 pub returns-then-not-is_on_path : goal.returns-then-not-is_on_path
@@ -69,8 +69,8 @@ returns-then-not-is_on_path c =
     let other : c.goal_of.result ≡ None = search rules in
     let off : c.is_on_path.result ≡ false = search rules in
     sym (
-      c.loop-step.invariant ∙ ap (λ j. jump_from m r x j k a) left
-      ∙ jump_never m r x n k a (inst, size) (sym c.formed_at.ensures.found ∙ c.in_ok-inst.was) (sym c.goal_of.ensures ∙ other) (sym c.is_on_path.ensures ∙ off)
+    c.loop-step.invariant ∙ ap (λ j. jump_from m r x j k a) left
+    ∙ jump_never m r x n k a (inst, size) (sym c.formed_at.ensures.found ∙ c.in_ok-inst.was) (sym c.goal_of.ensures ∙ other) (sym c.is_on_path.ensures ∙ off)
     )
 
 pub loop-step-preserved : goal.loop-step-preserved

@@ -1,0 +1,128 @@
+//! Worked windows, their bytes written out by hand from the opcode map.
+
+use crate::{TableWindow, inst_at, window};
+use elf_image::{Image, ImageFault, Range};
+use std::alloc::{AllocError, Global};
+use std::test::Fail;
+
+const ENTRY: u32 = 0x0804_8100;
+
+const TABLE: u32 = 0x0804_9000;
+
+/// An image of code at the entry, in a segment that can't be written, and of a table of three words in one of its own.
+fn image(alloc: Global, code: &[u8], table_flags: u32) -> Result<Image, Fail> {
+    let size = u32::try_from(0x100 + code.len())?;
+    let header = [0x0003_0002, 1, ENTRY, 52, 0, 0, 0x0020_0034, 2, 0];
+    let segments = [
+        [1, 0, 0x0804_8000, 0x0804_8000, size, size, 5, 4096],
+        [1, 0x1000, TABLE, TABLE, 12, 12, table_flags, 4096],
+    ];
+    let mut bytes = Vec::from_slice(alloc, b"\x7fELF\x01\x01\x01\0\0\0\0\0\0\0\0\0")?;
+    for word in header {
+        bytes.extend_from_slice(&u32::to_le_bytes(word))?;
+    }
+    for segment in segments {
+        for word in segment {
+            bytes.extend_from_slice(&u32::to_le_bytes(word))?;
+        }
+    }
+    bytes.resize(0x100, 0)?;
+    bytes.extend_from_slice(code)?;
+    bytes.resize(0x1000, 0)?;
+    for target in [ENTRY + 12, ENTRY + 14, ENTRY] {
+        bytes.extend_from_slice(&u32::to_le_bytes(target))?;
+    }
+    match Image::read(alloc, &bytes) {
+        Ok(image) => Ok(image),
+        Err(ImageFault::Memory) => Err(AllocError.into()),
+        Err(ImageFault::Elf(_)) => Err("no image".into()),
+    }
+}
+
+/// The default, the jump and the count of the window at the entry, whose table is at its place.
+fn told(alloc: Global, code: &[u8], table_flags: u32) -> Result<Option<(u32, u32, u32)>, Fail> {
+    let image = image(alloc, code, table_flags)?;
+    let range = Range::new(ENTRY, u32::try_from(code.len())?);
+    Ok(match window(&image, &range, ENTRY) {
+        Some(w) if w.table == TABLE => Some((w.default - ENTRY, w.jump - ENTRY, w.count)),
+        _ => None,
+    })
+}
+
+#[test]
+fn windows_are_found(rt: HostRuntime) -> Result<(), Fail> {
+    let cases: [(&[u8], u32, Option<(u32, u32, u32)>); 8] = [
+        // cmp eax, 2; ja +7; jmp [4 * eax + table]; xor eax, eax; ret
+        (
+            b"\x83\xf8\x02\x77\x07\xff\x24\x85\0\x90\x04\x08\x31\xc0\xc3",
+            4,
+            Some((12, 5, 3)),
+        ),
+        // jae
+        (
+            b"\x83\xf8\x02\x73\x07\xff\x24\x85\0\x90\x04\x08\x31\xc0\xc3",
+            4,
+            Some((12, 5, 2)),
+        ),
+        // jg
+        (
+            b"\x83\xf8\x02\x7f\x07\xff\x24\x85\0\x90\x04\x08\x31\xc0\xc3",
+            4,
+            None,
+        ),
+        // a table that can be written
+        (
+            b"\x83\xf8\x02\x77\x07\xff\x24\x85\0\x90\x04\x08\x31\xc0\xc3",
+            6,
+            None,
+        ),
+        // a table of which a word is missing
+        (
+            b"\x83\xf8\x03\x77\x07\xff\x24\x85\0\x90\x04\x08\x31\xc0\xc3",
+            4,
+            None,
+        ),
+        // cmp al, 2; jbe +1; ret; movzx eax, al; mov eax, [4 * eax + table]; jmp eax
+        (
+            b"\x3c\x02\x76\x01\xc3\x0f\xb6\xc0\x8b\x04\x85\0\x90\x04\x08\xff\xe0",
+            4,
+            Some((4, 15, 3)),
+        ),
+        // cmp eax, 3; jb +1; ret; shl eax, 2; add eax, table; jmp [eax]
+        (
+            b"\x83\xf8\x03\x72\x01\xc3\xc1\xe0\x02\x05\0\x90\x04\x08\xff\x20",
+            4,
+            Some((5, 14, 3)),
+        ),
+        // cmp eax, 2; ja +7; jmp [2 * eax + table]; ret
+        (
+            b"\x83\xf8\x02\x77\x07\xff\x24\x45\0\x90\x04\x08\xc3",
+            4,
+            None,
+        ),
+    ];
+    for (code, table_flags, expected) in cases {
+        assert_eq!(rt; told(rt.alloc(), code, table_flags)?, expected);
+    }
+    Ok(())
+}
+
+#[test]
+fn entries_are_targets(rt: HostRuntime) -> Result<(), Fail> {
+    let image = image(rt.alloc(), b"\xc3", 4)?;
+    let w = TableWindow {
+        default: ENTRY,
+        table: TABLE,
+        count: 3,
+        jump: ENTRY,
+        path: ENTRY,
+    };
+    assert_eq!(rt;
+        [w.target(&image, 0), w.target(&image, 2)],
+        [ENTRY + 12, ENTRY]
+    );
+    let range = Range::new(ENTRY, 1);
+    assert!(rt; matches!(inst_at(&image, &range, ENTRY), Some((_, 1))));
+    assert!(rt; inst_at(&image, &range, ENTRY + 1).is_none());
+    Ok(())
+}
