@@ -1,3 +1,5 @@
 pub mod Forms
 pub mod Window
 pub mod Laws
+pub mod Known
+pub mod Found

@@ -4,7 +4,14 @@
 #![tactic(auto)]
 
 mod forms;
+mod known;
+mod laws;
+mod reading;
 mod table;
+mod windows;
 
 pub use forms::Form;
+pub use laws::one_window;
+pub use reading::inst_at;
 pub use table::TableWindow;
+pub use windows::window;

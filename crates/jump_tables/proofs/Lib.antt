@@ -1,0 +1,6 @@
+mod Finding
+mod Standing
+mod Fronts
+mod Tables
+mod Registers
+mod Steps
