@@ -1,0 +1,5 @@
+pub mod Loops
+pub mod Arrivals
+pub mod Owners
+pub mod Bare
+pub mod Ends
