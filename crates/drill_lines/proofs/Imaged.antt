@@ -1,5 +1,5 @@
 -- The file that loads a code has an image.
-use Rattle.std.proofs.Common.{◌≡◌, ℕ, ◌+◌, ◌*◌, ◌/◌, ◌%◌, ◌^◌, ◌<◌, ◌≤◌, Bool, true, false, not, ◌&&◌, List, ◌∷◌, ◌++◌, [], length, nat_lt, slice_index, Option, Some, None, Ok, refl, sym, ap, ◌∙◌, arith, le-ltb}
+use Rattle.std.proofs.Common.{◌≡◌, ℕ, ◌+◌, ◌*◌, ◌%◌, ◌^◌, ◌<◌, ◌≤◌, Bool, false, List, ◌∷◌, ◌++◌, [], length, nat_lt, Option, None, Result, Ok, Err, refl, sym, ap, ◌∙◌, arith, le-ltb}
 use Rattle.std.proofs.lemmas.List.{length-append}
 use Rattle.std.proofs.lemmas.Bool.{and_right, or_from}
 use Rattle.std.specs.Int.{byte_at}
@@ -7,17 +7,22 @@ use Rattle.elf_image.specs.declared.image.Segment.{Segment}
 use Rattle.elf_image.specs.declared.image.ElfFault.{ElfFault}
 use Rattle.elf_image.specs.First.{first_below}
 use Rattle.elf_image.specs.Header.{entry_count, is_load, offset_of, address_of, file_size_of, size_of}
-use Rattle.elf_image.specs.Rules.{is_outside, is_overlapping, first_rule, header_rules, headers_fault, first_broken}
+use Rattle.elf_image.specs.Rules.{is_outside, first_rule, header_rules, headers_fault, first_broken}
 use Rattle.elf_image.specs.Image.{image_of, segments_of}
 use Rattle.generators.specs.Code.{pieces}
 use Rattle.generators.specs.Files.{elf_header, program_header, file_of}
 use Rattle.generators.proofs.Lengths.{pieces_short}
 use Rattle.drill_lines.specs.Laws.{CodeHasImage, DrillHasImage}
 
--- a rule that isn't broken
-unbroken : (b : Bool) (f : ElfFault) (rules : List (Bool × ElfFault)) (other : Option ElfFault) → b ≡ false → first_rule rules other ≡ None → first_rule ((b, f) ∷ rules) other ≡ None
-unbroken false f rules other e h = h
-unbroken true f rules other e h = absurd (cc)
+-- no rule is broken
+abbrev AreUnbroken : List (Bool × ElfFault) → Type 0
+AreUnbroken [] = Unit {0}
+AreUnbroken (rule ∷ rules) = (rule.0 ≡ false) × AreUnbroken rules
+
+-- then the other fault counts
+unbroken : (rules : List (Bool × ElfFault)) (other : Option ElfFault) → AreUnbroken rules → first_rule rules other ≡ other
+unbroken [] other h = refl
+unbroken (rule ∷ rules) other h = rw h.0 (unbroken rules other h.1)
 
 -- no number below one passes
 one_below : (test : ℕ → Bool) → test 0 ≡ false → first_below 1 test ≡ None
@@ -37,6 +42,7 @@ file_long code =
     omega (arith, a, b, c, d)
 
 module _ (code : List ℕ) (l : length code < 2 ^ 31) where
+  abbrev file : List ℕ
   file = file_of code
 
   size_word : (84 + length code) % 2 ^ 32 ≡ 84 + length code
@@ -56,25 +62,23 @@ module _ (code : List ℕ) (l : length code < 2 ^ 31) where
       and_right (is_load file 0) _ (or_from _ _ a (or_from _ _ b d))
 
   headers : headers_fault file ≡ None
-  headers = rw (one_below (is_outside file) inside, one_below (is_overlapping file) refl) refl
+  headers = rw (one_below (is_outside file) inside) refl
 
   none_broken : first_broken file ≡ None
   none_broken =
       let a : nat_lt (length file) 52 ≡ false = le-ltb _ _ (omega (arith, file_long code)) in
       let b : nat_lt (length file) 84 ≡ false = le-ltb _ _ (omega (arith, file_long code)) in
-      unbroken _ _ _ _ a
-      (unbroken _ _ _ _ refl
-      (unbroken _ _ _ _ refl
-      (unbroken _ _ _ _ refl
-      (unbroken _ _ _ _ refl
-      (unbroken _ _ _ _ refl
-      (unbroken _ _ _ _ refl
-      (unbroken _ _ _ _ refl
-      (unbroken _ _ _ _ refl
-      (unbroken _ _ _ _ b headers)))))))))
+      unbroken (header_rules file) (headers_fault file) (a, (refl, (refl, (refl, (refl, (refl, (refl, (refl, (refl, (b, tt)))))))))) ∙ headers
 
 pub code_images : CodeHasImage
 code_images code l = (segments_of (file_of code) (entry_count (file_of code)), rw (none_broken code l) refl)
 
 pub drill_images : DrillHasImage
 drill_images n some few = code_images (pieces n) (let l : length (pieces n) ≤ 100 * n = pieces_short n in omega arith)
+
+-- so it isn't refused
+pub never_refused : (n : ℕ) (bytes : List ℕ) (f : ElfFault) → 1 ≤ n → n ≤ 4000 → bytes ≡ file_of (pieces n) → image_of bytes ≡ Err f → ⊥
+never_refused n bytes f some few is e =
+    let p = drill_images n some few in
+    let q : ◌≡◌ {A = Result (List Segment) ElfFault} (Ok p.0) (Err f) = sym p.1 ∙ ap image_of (sym is) ∙ e in
+    cc

@@ -1,5 +1,5 @@
 -- What holds of the elements of two lists place by place.
-use Rattle.std.proofs.Common.{◌≡◌, ℕ, ◌+◌, ◌<◌, List, [], ◌∷◌, ◌++◌, length, take, get_or, sym, subst, ap, ◌∙◌}
+use Rattle.std.proofs.Common.{◌≡◌, ℕ, ◌+◌, ◌<◌, List, [], ◌∷◌, ◌++◌, length, take, get_or, sym, subst}
 use Rattle.std.proofs.lemmas.List.{take_more}
 use Rattle.std.specs.List.{AllZip}
 
@@ -10,8 +10,7 @@ zip_push R (a ∷ xs) [] x y h k = absurd h
 zip_push R (a ∷ xs) (b ∷ ys) x y h k = (h.0, zip_push R xs ys x y h.1 k)
 
 -- one place more
-pub zip_more : {A B : Type 0} (R : A → B → Type 0) (xs : List A) (ys all : List B) (i : ℕ) (x : A) (y : B) → i < length xs → x ≡ get_or xs i x → all ≡ ys ++ y ∷ [] → AllZip R (take i xs) ys → R x y
+pub zip_more : {A B : Type 0} (R : A → B → Type 0) (xs : List A) (ys all : List B) (i : ℕ) (d : A) (y : B) → i < length xs → all ≡ ys ++ y ∷ [] → AllZip R (take i xs) ys → R (get_or xs i d) y
     → AllZip R (take (i + 1) xs) all
-zip_more R xs ys all i x y l at new h k =
-    let next : take (i + 1) xs ≡ take i xs ++ x ∷ [] = take_more xs i x l ∙ ap (λ z. take i xs ++ z ∷ []) (sym at) in
-    subst (λ zs. AllZip R zs all) (sym next) (subst (AllZip R (take i xs ++ x ∷ [])) (sym new) (zip_push R (take i xs) ys x y h k))
+zip_more R xs ys all i d y l new h k =
+    subst (λ zs. AllZip R zs all) (sym (take_more xs i d l)) (subst (AllZip R (take i xs ++ get_or xs i d ∷ [])) (sym new) (zip_push R (take i xs) ys (get_or xs i d) y h k))

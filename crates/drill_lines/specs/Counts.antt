@@ -11,7 +11,7 @@ use Rattle.c_syntax.specs.declared.syntax.CFun.{CFun}
 use Rattle.guarded.specs.Counts.{selectors_in, ext_in, stores_in}
 use Rattle.dream_engine.specs.declared.form.Form.TheVariants.{Structured}
 use Rattle.dream_engine.specs.Agreement.{IsFunctionOf}
-use Rattle.drill_lines.specs.declared.counts.Counts.{Counts}
+use Rattle.drill_lines.specs.declared.range_counts.Counts.{Counts}
 
 -- what is counted of a range with a named place: nothing
 abbrev pub nothing : Counts

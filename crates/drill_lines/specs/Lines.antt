@@ -7,7 +7,7 @@ use Rattle.elf_image.specs.declared.range.Range.{Range}
 use Rattle.elf_image.specs.Image.{image_of}
 use Rattle.generators.specs.Code.{pieces, ranges}
 use Rattle.generators.specs.Files.{file_of}
-use Rattle.drill_lines.specs.declared.counts.Counts.{Counts}
+use Rattle.drill_lines.specs.declared.range_counts.Counts.{Counts}
 use Rattle.drill_lines.specs.declared.line.Totals.{Totals}
 use Rattle.drill_lines.specs.Counts.{HasCountsIn}
 

@@ -1,6 +1,6 @@
 -- Sums that have room for one summand more.
 use Rattle.std.specs.Prelude.{ℕ, ◌+◌, ◌<◌}
-use Rattle.drill_lines.specs.declared.counts.Counts.{Counts}
+use Rattle.drill_lines.specs.declared.range_counts.Counts.{Counts}
 use Rattle.drill_lines.specs.declared.line.Totals.{Totals}
 
 -- the sums with the counts of one range more

@@ -8,8 +8,8 @@ ghost use Rattle.generators.specs.Files.{file_of};
 ghost use Rattle.drill_lines.specs.Counts.{HasCountsIn};
 ghost use Rattle.drill_lines.specs.Lines.{IsDrillLine};
 
-use crate::counts::{Counts, counts_of};
-use crate::line::{bytes_of, line, totals};
+use crate::line::{bytes_of, line, sums_of};
+use crate::range_counts::{Counts, counts_of};
 use elf_image::{Image, ImageFault, Range};
 use generators::{drill_ranges, make_drill};
 use std::alloc::{AllocError, Global};
@@ -48,5 +48,5 @@ pub fn drill_line(alloc: Global, n: u32) -> Result<Vec<u8>, AllocError>
     let image = drill_image(alloc, n)?;
     let ranges = drill_ranges(alloc, n)?;
     let all = counts_of_each(alloc, &image, &ranges)?;
-    line(alloc, n, bytes_of(&ranges), totals(&all))
+    line(alloc, n, bytes_of(&ranges), sums_of(&all))
 }

@@ -3,14 +3,14 @@
 //! Promised is the line of the counts of its functions, each of which is decompiled or refused with its cause.
 #![tactic(auto)]
 
-mod counts;
 mod drill;
 mod laws;
 mod line;
+mod range_counts;
 mod statements;
 #[cfg(test)]
 mod tests;
 
-pub use counts::{Counts, counts_of};
 pub use drill::drill_line;
 pub use laws::{code_has_image, drill_has_image};
+pub use range_counts::{Counts, counts_of};

@@ -5,13 +5,13 @@ ghost use Rattle.std.specs.Fmt.{decimal};
 ghost use Rattle.drill_lines.specs.Lines.{bytes_in, line_of, totals_of};
 ghost use Rattle.drill_lines.specs.Sums.{AreBelow, with_counts};
 
-use crate::counts::Counts;
+use crate::range_counts::Counts;
 use elf_image::Range;
 use itoa::Buffer;
 use std::alloc::{AllocError, Global};
 
 /// The sums of counts.
-#[derive(Clone, Copy, Debug, PartialEq, Eq)]
+#[derive(Clone, Copy)]
 pub(crate) struct Totals {
     pub accepted: u128,
     pub components: u128,
@@ -38,7 +38,7 @@ impl Totals {
 }
 
 /// The sums of the counts of ranges.
-pub(crate) fn totals(all: &[Counts]) -> Totals
+pub(crate) fn sums_of(all: &[Counts]) -> Totals
     ensures { result ≡ totals_of all.now }
 {
     let mut sums = Totals {

@@ -1,10 +1,11 @@
 //! How many calls and stores statements have.
 
-ghost use Rattle.std.specs.Prelude.{◌≡◌, map};
-ghost use Rattle.guarded.specs.Counts.{c_stmt_count, c_arm_count, c_group_count, total};
+ghost use Rattle.std.specs.Prelude.{◌≡◌, IfOk, map};
+ghost use Rattle.guarded.specs.Counts.{c_stmt_count, c_arm_count, c_group_count, c_count, total};
 ghost use Rattle.drill_lines.specs.Statements.{at_most, weights_of};
 
 use c_syntax::{CArm, CGroup, CStmt};
+use std::alloc::AllocError;
 
 /// Which statements are counted.
 #[derive(Clone, Copy)]
@@ -62,7 +63,7 @@ fn count_stmt(kind: Counted, s: &CStmt) -> u64
 
 /// How many statements have in all.
 #[cycle(statements)]
-pub(crate) fn count_all(kind: Counted, stmts: &[CStmt]) -> u64
+fn count_all(kind: Counted, stmts: &[CStmt]) -> u64
     ensures { result ≡ at_most (total (map (c_stmt_count (weights_of kind)) stmts.now)) }
 {
     let mut count: u64 = 0;
@@ -94,4 +95,13 @@ fn count_groups(kind: Counted, groups: &[CGroup]) -> u64
         count = count.saturating_add(count_all(kind, group.body.as_slice()));
     }
     count
+}
+
+/// How many statements have in all. As many as 2^64 - 1 are want of memory.
+#[tactic(auto, using(crate::proofs::Weighed::count_all_is))]
+pub(crate) fn count(kind: Counted, stmts: &[CStmt]) -> Result<u64, AllocError>
+    ensures { IfOk result (λ n. n ≡ c_count (weights_of kind) stmts.now) }
+{
+    let n = count_all(kind, stmts);
+    if n < u64::MAX { Ok(n) } else { Err(AllocError) }
 }

@@ -1,11 +1,10 @@
 //! What is counted of a range.
 
 ghost use Rattle.std.specs.Prelude.{◌≡◌, IfOk, IfErr};
-ghost use Rattle.guarded.specs.Counts.{ext_in, stores_in};
 ghost use Rattle.flow_graph.specs.Place.{HasNoText};
 ghost use Rattle.drill_lines.specs.Counts.{HasCountsIn, IsAccepted, counts_with, nothing};
 
-use crate::statements::{Counted, count_all};
+use crate::statements::{Counted, count};
 use c_syntax::CFun;
 use dream_engine::{Form, decompile_fun};
 use elf_image::{Image, Range};
@@ -43,20 +42,6 @@ impl Counts {
     }
 }
 
-// How many calls a function has. As many as 2^64 - 1 are want of memory.
-fn calls_in(f: &CFun) -> Result<u64, AllocError>
-    ensures { IfOk result (λ n. n ≡ ext_in f.now) }
-{
-    whole(count_all(Counted::Calls, f.body.as_slice()))
-}
-
-// How many stores a function has. As many as 2^64 - 1 are want of memory.
-fn stores_of(f: &CFun) -> Result<u64, AllocError>
-    ensures { IfOk result (λ n. n ≡ stores_in f.now) }
-{
-    whole(count_all(Counted::Stores, f.body.as_slice()))
-}
-
 // The counts of a range with so many components, and of its function.
 fn counts_with_parts(parts: u64, f: &CFun) -> Result<Counts, AllocError>
     ensures { IfOk result (λ c. c ≡ counts_with parts f.now) }
@@ -65,8 +50,8 @@ fn counts_with_parts(parts: u64, f: &CFun) -> Result<Counts, AllocError>
         accepted: 1,
         components: parts,
         selectors: u64::from(f.selectors),
-        ext: calls_in(f)?,
-        stores: stores_of(f)?,
+        ext: count(Counted::Calls, f.body.as_slice())?,
+        stores: count(Counted::Stores, f.body.as_slice())?,
     })
 }
 
