@@ -1,0 +1,4 @@
+use Rattle.read_statements.proofs.laws.one_token.Goals as goal
+
+pub returns : goal.returns
+returns c = ?
