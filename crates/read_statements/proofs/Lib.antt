@@ -1,3 +1,4 @@
 pub mod Parts
 pub mod Values
 pub mod Opening
+pub mod Beginning
