@@ -2,3 +2,4 @@ pub mod Parts
 pub mod Values
 pub mod Opening
 pub mod Beginning
+pub mod Turning
