@@ -3,3 +3,4 @@ pub mod Values
 pub mod Opening
 pub mod Beginning
 pub mod Turning
+pub mod Steps
