@@ -4,3 +4,4 @@ pub mod Opening
 pub mod Beginning
 pub mod Turning
 pub mod Steps
+pub mod States
