@@ -5,3 +5,4 @@ pub mod Beginning
 pub mod Turning
 pub mod Steps
 pub mod States
+pub mod Ends
