@@ -1,16 +1,14 @@
 -- The first token of a statement, and the tokens after it.
-use Rattle.std.proofs.Common.{◌≡◌, ◌⊎◌, inl, inr, ℕ, ◌+◌, ◌-◌, ◌^◌, ◌<◌, ◌≤◌, Bool, true, false, ◌&&◌, List, [], ◌∷◌, ◌++◌, Option, Some, None, map, refl, sym, ap, ◌∙◌, subst, arith}
-use Rattle.c_syntax.specs.declared.syntax.CExpr.{CExpr}
-use Rattle.c_syntax.specs.declared.syntax.CCond.{CCond}
+use Rattle.std.proofs.Common.{◌≡◌, inl, inr, ℕ, ◌≤◌, Bool, true, List, [], ◌∷◌, Option, Some, None, map, refl, sym, ap, ◌∙◌, subst}
 use Rattle.c_syntax.specs.declared.syntax.CStmt as st
 use Rattle.c_syntax.specs.declared.syntax.CStmt.{CStmt, CStmt-F, roll-CStmt}
 use Rattle.c_syntax.specs.declared.syntax.CArm.{CArm, CArm-F, roll-CArm}
-use Rattle.c_syntax.specs.declared.syntax.CGroup.{CGroup, CGroup-F, roll-CGroup}
+use Rattle.c_syntax.specs.declared.syntax.CGroup.{CGroup}
 use Rattle.c_syntax.specs.declared.token.Token.{Token}
 use Rattle.c_syntax.specs.declared.token.Token.TheVariants as tok
 use Rattle.c_syntax.specs.Tokens as tokens
 use Rattle.c_syntax.specs.Tokens.{Tokens, word_tokens, cond_tokens, all, body_tokens, more_arms, cases_tokens, stmt_tokens, arm_tokens, group_tokens}
-use Rattle.c_syntax.specs.Formed.{is_target, are_distinct, has_any}
+use Rattle.c_syntax.specs.Formed.{is_target, has_any}
 use Rattle.c_syntax.proofs.Layers.{stmt_tokens_layer, arm_tokens_layer}
 use Rattle.dream_words.specs.declared.machine.Name.{Name}
 use Rattle.dream_words.specs.declared.machine.Width.{Width}
@@ -54,9 +52,30 @@ module _ (l : Locals) (b : Bool) (d : ℕ) (k : StmtRest) where
       let p = arm_parts l b d y f in
       let rest : List Token = more_arms (map arm_tokens more) (last_tokens last r) in
       let body : List Token = all (map stmt_tokens y.body) (tok.End ∷ rest) in
-      begun x tok.If ts (tok.Open ∷ cond_tokens y.test (tok.Close ∷ tok.Begin ∷ body)) (e ∙ ap (λ q. q rest) (arm_tokens_layer y))
-      (p.1, (cond_tokens y.test (tok.Close ∷ tok.Begin ∷ body), refl, (item.Cond y.test, (refl, p.0), (tok.Close ∷ tok.Begin ∷ body, refl, (tok.Begin ∷ body, refl, (body, refl,
-      (y.body, p.2, (rest, refl, (more, g, (last, h, (r, refl, z)))))))))))
+      begun x tok.If ts (tok.Open ∷ cond_tokens y.test (tok.Close ∷ tok.Begin ∷ body)) (e ∙ ap (λ q. q rest) (arm_tokens_layer y)) (
+        p.1,
+        (
+          cond_tokens y.test (tok.Close ∷ tok.Begin ∷ body),
+          refl,
+          (
+            item.Cond y.test,
+            (refl, p.0),
+            (
+              tok.Close ∷ tok.Begin ∷ body,
+              refl,
+              (
+                tok.Begin ∷ body,
+                refl,
+                (
+                  body,
+                  refl,
+                  (y.body, p.2, (rest, refl, (more, g, (last, h, (r, refl, z))))),
+                ),
+              ),
+            ),
+          ),
+        ),
+      )
 
   some_if : (x : Token) (ts : List Token) (arms : List CArm) (last : Option (List CStmt)) (r : List Token) → has_any arms ≡ true → FitsArms l b d arms → FitsLast l b d last
       → x ∷ ts ≡ tokens.arms_tokens (map arm_tokens arms) (last_tokens last r) → k (roll-CStmt (CStmt-F.If arms last)) r → Starts x ts
@@ -72,27 +91,92 @@ module _ (l : Locals) (b : Bool) (d : ℕ) (k : StmtRest) where
       begun x (tok.Name n) ts (tok.Assign ∷ word_tokens a (tok.Semicolon ∷ r)) e
       (p.0, (word_tokens a (tok.Semicolon ∷ r), refl, inr (item.Word a, (refl, p.1), (tok.Semicolon ∷ r, refl, (r, refl, z)))))
   stmt_starts (CStmt-F.Load n w a) x ts r p e z =
-      begun x (tok.Name n) ts (tok.Assign ∷ tok.Ld w ∷ tok.Open ∷ word_tokens a (tok.Close ∷ tok.Semicolon ∷ r)) e
-      (p.0, (tok.Ld w ∷ tok.Open ∷ word_tokens a (tok.Close ∷ tok.Semicolon ∷ r), refl, inl (w, (tok.Open ∷ word_tokens a (tok.Close ∷ tok.Semicolon ∷ r), refl, (word_tokens a (tok.Close ∷ tok.Semicolon ∷ r), refl,
-      (item.Word a, (refl, p.1), (tok.Close ∷ tok.Semicolon ∷ r, refl, (tok.Semicolon ∷ r, refl, (r, refl, z)))))))))
+      begun x (tok.Name n) ts (tok.Assign ∷ tok.Ld w ∷ tok.Open ∷ word_tokens a (tok.Close ∷ tok.Semicolon ∷ r)) e (
+        p.0,
+        (
+          tok.Ld w ∷ tok.Open ∷ word_tokens a (tok.Close ∷ tok.Semicolon ∷ r),
+          refl,
+          inl (
+            w,
+            (
+              tok.Open ∷ word_tokens a (tok.Close ∷ tok.Semicolon ∷ r),
+              refl,
+              (
+                word_tokens a (tok.Close ∷ tok.Semicolon ∷ r),
+                refl,
+                (item.Word a, (refl, p.1), (tok.Close ∷ tok.Semicolon ∷ r, refl, (tok.Semicolon ∷ r, refl, (r, refl, z)))),
+              ),
+            ),
+          ),
+        ),
+      )
   stmt_starts (CStmt-F.Store w a v) x ts r p e z =
-      begun x (tok.St w) ts (tok.Open ∷ word_tokens a (tok.Comma ∷ word_tokens v (tok.Close ∷ tok.Semicolon ∷ r))) e
-      (word_tokens a (tok.Comma ∷ word_tokens v (tok.Close ∷ tok.Semicolon ∷ r)), refl, (item.Word a, (refl, p.0), (tok.Comma ∷ word_tokens v (tok.Close ∷ tok.Semicolon ∷ r), refl, (word_tokens v (tok.Close ∷ tok.Semicolon ∷ r), refl,
-      (item.Word v, (refl, p.1), (tok.Close ∷ tok.Semicolon ∷ r, refl, (tok.Semicolon ∷ r, refl, (r, refl, z))))))))
+      begun x (tok.St w) ts (tok.Open ∷ word_tokens a (tok.Comma ∷ word_tokens v (tok.Close ∷ tok.Semicolon ∷ r))) e (
+        word_tokens a (tok.Comma ∷ word_tokens v (tok.Close ∷ tok.Semicolon ∷ r)),
+        refl,
+        (
+          item.Word a,
+          (refl, p.0),
+          (
+            tok.Comma ∷ word_tokens v (tok.Close ∷ tok.Semicolon ∷ r),
+            refl,
+            (
+              word_tokens v (tok.Close ∷ tok.Semicolon ∷ r),
+              refl,
+              (item.Word v, (refl, p.1), (tok.Close ∷ tok.Semicolon ∷ r, refl, (tok.Semicolon ∷ r, refl, (r, refl, z)))),
+            ),
+          ),
+        ),
+      )
   stmt_starts (CStmt-F.Ext a) x ts r p e z =
       begun x tok.Ext ts (tok.Open ∷ word_tokens a (tok.Close ∷ tok.Semicolon ∷ r)) e
       (word_tokens a (tok.Close ∷ tok.Semicolon ∷ r), refl, (item.Word a, (refl, p), (tok.Close ∷ tok.Semicolon ∷ r, refl, (tok.Semicolon ∷ r, refl, (r, refl, z)))))
   stmt_starts (CStmt-F.Trap v a) x ts r p e z =
-      begun x tok.Trap ts (tok.Open ∷ tok.Num v ∷ tok.Comma ∷ word_tokens a (tok.Close ∷ tok.Semicolon ∷ r)) e
-      (tok.Num v ∷ tok.Comma ∷ word_tokens a (tok.Close ∷ tok.Semicolon ∷ r), refl, (v, p.0, (tok.Comma ∷ word_tokens a (tok.Close ∷ tok.Semicolon ∷ r), refl, (word_tokens a (tok.Close ∷ tok.Semicolon ∷ r), refl,
-      (item.Word a, (refl, p.1), (tok.Close ∷ tok.Semicolon ∷ r, refl, (tok.Semicolon ∷ r, refl, (r, refl, z))))))))
+      begun x tok.Trap ts (tok.Open ∷ tok.Num v ∷ tok.Comma ∷ word_tokens a (tok.Close ∷ tok.Semicolon ∷ r)) e (
+        tok.Num v ∷ tok.Comma ∷ word_tokens a (tok.Close ∷ tok.Semicolon ∷ r),
+        refl,
+        (
+          v,
+          p.0,
+          (
+            tok.Comma ∷ word_tokens a (tok.Close ∷ tok.Semicolon ∷ r),
+            refl,
+            (
+              word_tokens a (tok.Close ∷ tok.Semicolon ∷ r),
+              refl,
+              (item.Word a, (refl, p.1), (tok.Close ∷ tok.Semicolon ∷ r, refl, (tok.Semicolon ∷ r, refl, (r, refl, z)))),
+            ),
+          ),
+        ),
+      )
   stmt_starts (CStmt-F.If arms None) x ts r p e z = some_if x ts arms None r p.0 p.2 tt e z
   stmt_starts (CStmt-F.If arms (Some last)) x ts r p e z = some_if x ts arms (Some last) r p.0 p.2 p.3 e z
   stmt_starts (CStmt-F.Switch a groups last) x ts r p e z =
       let rest : List Token = all (map group_tokens groups) (tok.Default ∷ tok.Colon ∷ body_tokens (map stmt_tokens last) (tok.Break ∷ tok.Semicolon ∷ tok.End ∷ r)) in
-      begun x tok.Switch ts (tok.Open ∷ word_tokens a (tok.Close ∷ tok.Begin ∷ rest)) e
-      (p.1, (word_tokens a (tok.Close ∷ tok.Begin ∷ rest), refl, (item.Word a, (refl, p.0), (tok.Close ∷ tok.Begin ∷ rest, refl, (tok.Begin ∷ rest, refl, (rest, refl,
-      (groups, p.2, p.3, (last, p.4, (r, refl, z)))))))))
+      begun x tok.Switch ts (tok.Open ∷ word_tokens a (tok.Close ∷ tok.Begin ∷ rest)) e (
+        p.1,
+        (
+          word_tokens a (tok.Close ∷ tok.Begin ∷ rest),
+          refl,
+          (
+            item.Word a,
+            (refl, p.0),
+            (
+              tok.Close ∷ tok.Begin ∷ rest,
+              refl,
+              (
+                tok.Begin ∷ rest,
+                refl,
+                (
+                  rest,
+                  refl,
+                  (groups, p.2, p.3, (last, p.4, (r, refl, z))),
+                ),
+              ),
+            ),
+          ),
+        ),
+      )
   stmt_starts (CStmt-F.Loop body) x ts r p e z =
       let rest : List Token = all (map stmt_tokens body) (tok.End ∷ r) in
       begun x tok.While ts (tok.Open ∷ tok.One ∷ tok.Close ∷ tok.Begin ∷ rest) e
@@ -186,7 +270,7 @@ module _ (l : Locals) (b : Bool) (d : ℕ) (k : StmtRest) where
 
   if_made : (ts : List Token) → Starts tok.If ts → OneStmt l b d k (tok.If ∷ ts)
   if_made ts (p, (r0, e0, (item.Word a, f, (r1, e1, z)))) = absurd z
-  if_made ts (p, (r0, e0, (item.Cond c, f, (r1, e1, (r2, e2, (r3, e3, (body, g, (r4, e4, (more, h, (last, hl, (r, e, z)))))))))))  =
+  if_made ts (p, (r0, e0, (item.Cond c, f, (r1, e1, (r2, e2, (r3, e3, (body, g, (r4, e4, (more, h, (last, hl, (r, e, z))))))))))) =
       let y : CArm-F CStmt CArm CGroup = record { test = c; body = body } in
       arms_made (roll-CArm y ∷ more) last (tok.If ∷ ts) r refl p (arm_fits l b d y f.1 p g, h) hl
       (ap (λ q. tok.If ∷ q) (e0 ∙ ap (λ q. tok.Open ∷ q) (e1 ∙ ap (cond_tokens c) (e2 ∙ ap (λ q. tok.Close ∷ q) (e3 ∙ ap (λ q. tok.Begin ∷ q) (e4 ∙ ap (λ q. all (map stmt_tokens body) (tok.End ∷ q)) e)))))

@@ -1,39 +1,27 @@
 -- What isn't the whole function doesn't go on with no tokens, and at the start a function goes on with its own.
-use Rattle.std.proofs.Common.{◌≡◌, zero, suc, ◌⊎◌, inl, inr, ℕ, ◌+◌, ◌-◌, ◌^◌, ◌<◌, ◌≤◌, Bool, true, false, not, ◌&&◌, max, nat_le, nat_lt, nat_eq, List, [], ◌∷◌, ◌++◌, length, map, Option, Some, None, if◌then◌else◌, refl, sym, ap, ◌∙◌, subst, arith}
-use Rattle.std.proofs.lemmas.List.{append_assoc, append-nil}
+use Rattle.std.proofs.Common.{◌≡◌, zero, suc, ◌⊎◌, inl, inr, ℕ, ◌+◌, ◌-◌, ◌^◌, ◌<◌, ◌≤◌, Bool, true, false, ◌&&◌, nat_lt, nat_eq, List, [], ◌∷◌, ◌++◌, map, None, refl, sym, ap, ◌∙◌, subst, arith}
 use Rattle.std.proofs.lemmas.Bool.{eqb-true, eq-eqb}
-use borrow.Author.Tests.{lt-ltb, ltb-true}
+use borrow.Author.Tests.{lt-ltb}
 use Rattle.dream_words.specs.declared.machine.Name.{Name}
 use Rattle.dream_words.specs.declared.machine.Name.TheVariants as name
-use Rattle.c_syntax.specs.declared.syntax.CExpr.{CExpr}
-use Rattle.c_syntax.specs.declared.syntax.CCond.{CCond}
 use Rattle.c_syntax.specs.declared.syntax.CStmt.{CStmt, CStmt-F, roll-CStmt}
-use Rattle.c_syntax.specs.declared.syntax.CArm.{CArm, CArm-F, roll-CArm}
-use Rattle.c_syntax.specs.declared.syntax.CGroup.{CGroup, CGroup-F, roll-CGroup}
+use Rattle.c_syntax.specs.declared.syntax.CArm.{CArm}
 use Rattle.c_syntax.specs.declared.syntax.CFun.{CFun}
 use Rattle.c_syntax.specs.declared.token.Token.{Token}
 use Rattle.c_syntax.specs.declared.token.Token.TheVariants as tok
 use Rattle.c_syntax.specs.Tokens.{all, stmt_tokens, stmts_tokens, decls_tokens, fun_tokens}
-use Rattle.c_syntax.specs.Depth.{stmt_depth, stmts_depth}
-use Rattle.c_syntax.specs.Formed.{are_distinct, are_words, has_any, stmt_allowed, stmts_allowed, IsWellFormed}
-use Rattle.c_lex.specs.Lexemes.{IsToken}
+use Rattle.c_syntax.specs.Depth.{stmts_depth}
+use Rattle.c_syntax.specs.Formed.{stmt_allowed, stmts_allowed, IsWellFormed}
 use Rattle.read_words.specs.declared.open.Locals.{Locals}
 use Rattle.read_words.specs.declared.open.Item.{Item}
 use Rattle.read_words.specs.declared.open.Item.TheVariants as item
-use Rattle.read_words.specs.declared.open.Wanted.TheVariants as want
 use Rattle.read_words.specs.declared.open.State as words_state
 use Rattle.read_words.specs.declared.open.State.TheVariants as state
 use Rattle.read_words.specs.declared.open.Open as words_open
-use Rattle.read_words.specs.Turns as words_turns
-use Rattle.read_words.specs.Turns.{Reading, scope}
+use Rattle.read_words.specs.Turns.{scope}
 use Rattle.read_words.specs.Rests as words
 use Rattle.read_words.specs.Rests.{Follows}
-use Rattle.read_words.specs.Reads as words_reads
 use Rattle.read_words.proofs.Fitting.{both_true, two_true}
-use Rattle.read_words.proofs.Beginning.{head_of, tail_of}
-use Rattle.read_words.proofs.Steps as words_steps
-use Rattle.read_statements.specs.declared.open.Mark.{Mark}
-use Rattle.read_statements.specs.declared.open.Mark.TheVariants as mark
 use Rattle.read_statements.specs.declared.open.Head.{Head}
 use Rattle.read_statements.specs.declared.open.Head.TheVariants as head
 use Rattle.read_statements.specs.declared.open.Decl.{Decl}
@@ -41,26 +29,16 @@ use Rattle.read_statements.specs.declared.open.Decl.TheVariants as decl
 use Rattle.read_statements.specs.declared.open.Use.{Use}
 use Rattle.read_statements.specs.declared.open.Use.TheVariants as use'
 use Rattle.read_statements.specs.declared.open.Switching.{Switching}
-use Rattle.read_statements.specs.declared.open.Nest.{Nest}
 use Rattle.read_statements.specs.declared.open.Nest.TheVariants as nest
-use Rattle.read_statements.specs.declared.open.Open.{Open}
 use Rattle.read_statements.specs.declared.open.Point.{Point}
 use Rattle.read_statements.specs.declared.open.Point.TheVariants as point
-use Rattle.read_statements.specs.declared.open.Turn.{Turn}
-use Rattle.read_statements.specs.declared.open.Turn.TheVariants as turn'
-use Rattle.read_statements.specs.Turns.{is_mark, expect, turn, after_part, wanted_for, Place, At, Inside, Body, breaks_in, breakable, depth_left, part, placed, done, settled_assign, settled_while, settled_if, shut, Outcome, Going, Ended, closed, turned, went, part_step, place_step, settled_step, body_step, with_group, State, Begun, Declaring, Within, Whole, start, fun_of, no_locals, may_declare, with_local, at_function, head_step, became, first_step, next_decl, at_local, decl_step, step_of}
-use Rattle.read_statements.specs.Rests.{Then, StmtRest, BodyRest, FitsStmt, FitsStmts, FitsArms, values_of, StmtsThen, Next, ElseThen, AfterElse, GroupsThen, ValuesThen, CaseThen,  NestRest, NestThen, UseRest, UseThen, SourceThen, WhileThen, PointRest, PlaceRest, Rests, BodyGoesOn, Ends, Declares, with_locals, names_tokens, Statements, DeclsThen, NamedThen, DeclRest, AddressThen, FunctionThen, HeadRest, GoesOn}
-use Rattle.read_statements.specs.Reads.{SwitchFits, DefaultFits, UseFits, NestFits, PointFits, PlaceFits, SomeFit, OpenFit, BodyFits, Bounds, HeadFits, HasLocal, IsRead, IsStep, OneToken, AtTheEnd, FromTheStart}
-use Rattle.read_statements.proofs.Parts.{fits, arm_fits, group_fits, group_values_are, stmts_push, arms_push, groups_push}
-use Rattle.read_statements.proofs.Values.{values_push, words_back}
-use Rattle.read_statements.proofs.Opening.{OneStmt, stmts_open, else_open, else_none, groups_open, values_open}
-use Rattle.read_statements.proofs.Steps.{IsOutcome, body_is}
+use Rattle.read_statements.specs.Turns.{wanted_for, Place, At, Inside, breakable, depth_left, State, Begun, Declaring, Within, Whole, start, fun_of, no_locals, may_declare, with_local}
+use Rattle.read_statements.specs.Rests.{BodyRest, FitsStmts, StmtsThen, Next, ElseThen, AfterElse, GroupsThen, ValuesThen, CaseThen, NestThen, UseRest, UseThen, SourceThen, WhileThen, PointRest, PlaceRest, Rests, Ends, Declares, with_locals, names_tokens, Statements, DeclsThen, DeclRest, HeadRest, GoesOn}
+use Rattle.read_statements.specs.Reads.{Bounds, AtTheEnd, FromTheStart}
+use Rattle.read_statements.proofs.Opening.{OneStmt, stmts_open, else_open, groups_open, values_open}
 use Rattle.read_statements.proofs.States.{well_formed, local_bounds}
 use Rattle.read_statements.proofs.Beginning.{one_not_none}
 use Rattle.read_words.proofs.Ends as words_ends
-use Rattle.read_statements.proofs.Turning.{mark_token, mark_same, mark_is, tail_in, IsSettled, IsTurn, turn_is, after_part_is, only_one}
-
-
 
 -- ---- the end
 
@@ -322,10 +300,11 @@ from_the_start_is f ts = (there, back)
         let nb : Bounds a no_locals = record { address = p; temps = omega arith; bools = omega arith; selectors = omega arith } in
         let w : IsWellFormed (fun_of a l ss) = well_formed a l ss (names_bounds a no_locals ns nb d) g in
         let e : r5 ≡ Decls l (stmts_tokens ss (tok.End ∷ [])) =
-            e6 ∙ ap (names_tokens ns) (e7 ∙ ap (λ q. all (map stmt_tokens ss) (tok.End ∷ q)) z.0 ∙ sym (same_stmts ss (tok.End ∷ []))) ∙ names_are no_locals ns (stmts_tokens ss (tok.End ∷ [])) d in
-        (subst IsWellFormed (sym z.1) w,
-        e0 ∙ ap (λ q. tok.Void ∷ q) (e1 ∙ ap (λ q. tok.Function a ∷ q) (e2 ∙ ap (λ q. tok.Open ∷ q) (e3 ∙ ap (λ q. tok.Void ∷ q) (e4 ∙ ap (λ q. tok.Close ∷ q) (e5 ∙ ap (λ q. tok.Begin ∷ q) e)))))
-        ∙ ap fun_tokens (sym z.1))
+        e6 ∙ ap (names_tokens ns) (e7 ∙ ap (λ q. all (map stmt_tokens ss) (tok.End ∷ q)) z.0 ∙ sym (same_stmts ss (tok.End ∷ []))) ∙ names_are no_locals ns (stmts_tokens ss (tok.End ∷ [])) d in (
+          subst IsWellFormed (sym z.1) w,
+          e0 ∙ ap (λ q. tok.Void ∷ q) (e1 ∙ ap (λ q. tok.Function a ∷ q) (e2 ∙ ap (λ q. tok.Open ∷ q) (e3 ∙ ap (λ q. tok.Void ∷ q) (e4 ∙ ap (λ q. tok.Close ∷ q) (e5 ∙ ap (λ q. tok.Begin ∷ q) e)))))
+              ∙ ap fun_tokens (sym z.1),
+        )
 
     back : IsWellFormed f × (ts ≡ fun_tokens f) → GoesOn start f ts
     back (w, e) =
@@ -334,8 +313,32 @@ from_the_start_is f ts = (there, back)
         let r6 : List Token = all (map stmt_tokens f.body) (tok.End ∷ []) in
         let r5 : List Token = names_tokens m.0 r6 in
         let g : Decls l (stmts_tokens f.body (tok.End ∷ [])) ≡ r5 =
-            ap (Decls l) (same_stmts f.body (tok.End ∷ [])) ∙ sym (names_are no_locals m.0 r6 m.1 ∙ ap (λ q. Decls q r6) m.2) in
-        (tok.Function f.address ∷ tok.Open ∷ tok.Void ∷ tok.Close ∷ tok.Begin ∷ r5,
-        e ∙ ap (λ q. tok.Void ∷ tok.Function f.address ∷ tok.Open ∷ tok.Void ∷ tok.Close ∷ tok.Begin ∷ q) g,
-        (f.address, w.address, (tok.Open ∷ tok.Void ∷ tok.Close ∷ tok.Begin ∷ r5, refl, (tok.Void ∷ tok.Close ∷ tok.Begin ∷ r5, refl, (tok.Close ∷ tok.Begin ∷ r5, refl, (tok.Begin ∷ r5, refl, (r5, refl,
-        (m.0, m.1, (r6, refl, subst (λ q. Statements f f.address q r6) (sym m.2) (f.body, stmts_fit l f.body w.allowed w.depth, ([], refl, (refl, refl))))))))))))
+        ap (Decls l) (same_stmts f.body (tok.End ∷ [])) ∙ sym (names_are no_locals m.0 r6 m.1 ∙ ap (λ q. Decls q r6) m.2) in (
+          tok.Function f.address ∷ tok.Open ∷ tok.Void ∷ tok.Close ∷ tok.Begin ∷ r5,
+          e ∙ ap (λ q. tok.Void ∷ tok.Function f.address ∷ tok.Open ∷ tok.Void ∷ tok.Close ∷ tok.Begin ∷ q) g,
+          (
+            f.address,
+            w.address,
+            (
+              tok.Open ∷ tok.Void ∷ tok.Close ∷ tok.Begin ∷ r5,
+              refl,
+              (
+                tok.Void ∷ tok.Close ∷ tok.Begin ∷ r5,
+                refl,
+                (
+                  tok.Close ∷ tok.Begin ∷ r5,
+                  refl,
+                  (
+                    tok.Begin ∷ r5,
+                    refl,
+                    (
+                      r5,
+                      refl,
+                      (m.0, m.1, (r6, refl, subst (λ q. Statements f f.address q r6) (sym m.2) (f.body, stmts_fit l f.body w.allowed w.depth, ([], refl, (refl, refl))))),
+                    ),
+                  ),
+                ),
+              ),
+            ),
+          ),
+        )

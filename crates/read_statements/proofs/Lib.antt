@@ -6,3 +6,4 @@ pub mod Turning
 pub mod Steps
 pub mod States
 pub mod Ends
+pub mod Leading

@@ -1,13 +1,11 @@
 -- The parts of a statement, arm or group that fits fit, and parts that do make a whole that fits.
-use Rattle.std.proofs.Common.{◌≡◌, ℕ, ◌+◌, ◌-◌, ◌^◌, ◌<◌, ◌≤◌, max, Bool, true, false, ◌&&◌, nat_le, List, [], ◌∷◌, ◌++◌, Option, Some, None, map, refl, sym, ap, ◌∙◌, subst, arith}
+use Rattle.std.proofs.Common.{◌≡◌, ℕ, ◌+◌, ◌-◌, ◌^◌, ◌<◌, ◌≤◌, max, Bool, true, ◌&&◌, nat_le, List, [], ◌∷◌, ◌++◌, Some, None, map, refl, sym, ap, ◌∙◌, subst, arith}
 use borrow.Author.Tests.{lt-ltb, ltb-true, leb-true, le-leb}
 use Rattle.c_syntax.specs.declared.syntax.CExpr.{CExpr}
 use Rattle.c_syntax.specs.declared.syntax.CCond.{CCond}
 use Rattle.c_syntax.specs.declared.syntax.CStmt as st
 use Rattle.c_syntax.specs.declared.syntax.CStmt.{CStmt, CStmt-F, roll-CStmt, ind-CStmt}
-use Rattle.c_syntax.specs.declared.syntax.CArm as arm
 use Rattle.c_syntax.specs.declared.syntax.CArm.{CArm, CArm-F, roll-CArm, ind-CArm}
-use Rattle.c_syntax.specs.declared.syntax.CGroup as group
 use Rattle.c_syntax.specs.declared.syntax.CGroup.{CGroup, CGroup-F, roll-CGroup, ind-CGroup}
 use Rattle.c_syntax.specs.Formed as ok
 use Rattle.c_syntax.specs.Formed.{Allowed, GroupAllowed, is_word, is_target, has_any, are_words, are_distinct, all_groups, groups_values, names_word, names_cond, word_allowed, cond_allowed, stmt_allowed, arm_allowed, group_allowed}

@@ -1,60 +1,33 @@
 -- The law on the reading of a token: declarations and head.
-use Rattle.std.proofs.Common.{◌≡◌, ◌⊎◌, inl, inr, ℕ, ◌+◌, ◌-◌, ◌^◌, ◌<◌, ◌≤◌, Bool, true, false, not, ◌&&◌, max, nat_le, nat_lt, nat_eq, List, [], ◌∷◌, ◌++◌, length, map, Option, Some, None, if◌then◌else◌, refl, sym, ap, ◌∙◌, subst, arith}
-use Rattle.std.proofs.lemmas.List.{append_assoc, append-nil}
+use Rattle.std.proofs.Common.{◌≡◌, ℕ, ◌-◌, ◌^◌, ◌<◌, ◌≤◌, Bool, true, false, ◌&&◌, nat_lt, nat_eq, List, [], ◌∷◌, Option, Some, None, if◌then◌else◌, refl, sym, ap, ◌∙◌, subst, arith}
 use Rattle.std.proofs.lemmas.Bool.{eqb-true}
 use borrow.Author.Tests.{lt-ltb, ltb-true}
 use Rattle.dream_words.specs.declared.machine.Name.{Name}
 use Rattle.dream_words.specs.declared.machine.Name.TheVariants as name
-use Rattle.c_syntax.specs.declared.syntax.CExpr.{CExpr}
-use Rattle.c_syntax.specs.declared.syntax.CCond.{CCond}
-use Rattle.c_syntax.specs.declared.syntax.CStmt.{CStmt, CStmt-F, roll-CStmt}
-use Rattle.c_syntax.specs.declared.syntax.CArm.{CArm, CArm-F, roll-CArm}
-use Rattle.c_syntax.specs.declared.syntax.CGroup.{CGroup, CGroup-F, roll-CGroup}
+use Rattle.c_syntax.specs.declared.syntax.CStmt.{CStmt}
 use Rattle.c_syntax.specs.declared.syntax.CFun.{CFun}
 use Rattle.c_syntax.specs.declared.token.Token.{Token}
 use Rattle.c_syntax.specs.declared.token.Token.TheVariants as tok
-use Rattle.c_syntax.specs.Depth.{stmt_depth, stmts_depth}
-use Rattle.c_syntax.specs.Formed.{are_distinct, are_words, has_any, stmt_allowed, stmts_allowed, IsWellFormed}
+use Rattle.c_syntax.specs.Depth.{stmts_depth}
+use Rattle.c_syntax.specs.Formed.{stmt_allowed, stmts_allowed, IsWellFormed}
 use Rattle.c_lex.specs.Lexemes.{IsToken}
 use Rattle.read_words.specs.declared.open.Locals.{Locals}
-use Rattle.read_words.specs.declared.open.Item.{Item}
-use Rattle.read_words.specs.declared.open.Wanted.TheVariants as want
-use Rattle.read_words.specs.declared.open.State as words_state
-use Rattle.read_words.specs.declared.open.State.TheVariants as state
-use Rattle.read_words.specs.declared.open.Open as words_open
-use Rattle.read_words.specs.Turns as words_turns
-use Rattle.read_words.specs.Turns.{Reading, scope}
-use Rattle.read_words.specs.Rests as words
+use Rattle.read_words.specs.Turns.{scope}
 use Rattle.read_words.specs.Rests.{Follows}
-use Rattle.read_words.specs.Reads as words_reads
 use Rattle.read_words.proofs.Fitting.{both_true, two_true}
 use Rattle.read_words.proofs.Beginning.{head_of, tail_of}
-use Rattle.read_words.proofs.Steps as words_steps
 use Rattle.read_statements.specs.declared.open.Mark.{Mark}
 use Rattle.read_statements.specs.declared.open.Mark.TheVariants as mark
 use Rattle.read_statements.specs.declared.open.Head.{Head}
 use Rattle.read_statements.specs.declared.open.Head.TheVariants as head
 use Rattle.read_statements.specs.declared.open.Decl.{Decl}
 use Rattle.read_statements.specs.declared.open.Decl.TheVariants as decl
-use Rattle.read_statements.specs.declared.open.Use.{Use}
-use Rattle.read_statements.specs.declared.open.Use.TheVariants as use'
-use Rattle.read_statements.specs.declared.open.Switching.{Switching}
-use Rattle.read_statements.specs.declared.open.Nest.{Nest}
-use Rattle.read_statements.specs.declared.open.Nest.TheVariants as nest
-use Rattle.read_statements.specs.declared.open.Open.{Open}
-use Rattle.read_statements.specs.declared.open.Point.{Point}
 use Rattle.read_statements.specs.declared.open.Point.TheVariants as point
-use Rattle.read_statements.specs.declared.open.Turn.{Turn}
-use Rattle.read_statements.specs.declared.open.Turn.TheVariants as turn'
-use Rattle.read_statements.specs.Turns.{is_mark, expect, turn, after_part, wanted_for, Place, At, Inside, Body, breaks_in, breakable, depth_left, part, placed, done, settled_assign, settled_while, settled_if, shut, Outcome, Going, Ended, closed, turned, went, part_step, place_step, settled_step, body_step, with_group, State, Begun, Declaring, Within, Whole, start, fun_of, no_locals, may_declare, with_local, at_function, head_step, became, first_step, next_decl, at_local, decl_step, step_of}
-use Rattle.read_statements.specs.Rests.{Then, StmtRest, BodyRest, FitsStmt, FitsStmts, FitsArms, values_of, StmtsThen, Next, ElseThen, AfterElse, NestRest, NestThen, UseRest, UseThen, SourceThen, WhileThen, PointRest, Rests, BodyGoesOn, Ends, Declares, with_locals, names_tokens, Statements, DeclsThen, NamedThen, DeclRest, AddressThen, FunctionThen, HeadRest, GoesOn}
-use Rattle.read_statements.specs.Reads.{SwitchFits, DefaultFits, UseFits, NestFits, PointFits, PlaceFits, SomeFit, OpenFit, BodyFits, Bounds, HeadFits, HasLocal, IsRead, IsStep, OneToken}
-use Rattle.read_statements.proofs.Parts.{fits, arm_fits, group_fits, group_values_are, stmts_push, arms_push, groups_push}
-use Rattle.read_statements.proofs.Values.{values_push, words_back}
-use Rattle.read_statements.proofs.Opening.{else_open, else_none}
+use Rattle.read_statements.specs.Turns.{is_mark, expect, At, placed, Outcome, Going, Ended, body_step, State, Begun, Declaring, Within, Whole, fun_of, no_locals, may_declare, with_local, at_function, head_step, became, first_step, next_decl, at_local, decl_step, step_of}
+use Rattle.read_statements.specs.Rests.{FitsStmts, BodyGoesOn, Ends, names_tokens, Statements, DeclsThen, NamedThen, DeclRest, AddressThen, FunctionThen, HeadRest, GoesOn}
+use Rattle.read_statements.specs.Reads.{Bounds, HeadFits, IsRead, IsStep, OneToken}
 use Rattle.read_statements.proofs.Steps.{IsOutcome, body_is}
-use Rattle.read_statements.proofs.Turning.{mark_token, mark_same, mark_is, tail_in, IsSettled, IsTurn, turn_is, after_part_is, only_one}
-
+use Rattle.read_statements.proofs.Turning.{mark_token, mark_same, mark_is, only_one}
 
 no_truth : {A : Type 0} → false ≡ true → A
 no_truth h = absurd (let z : ⊥ = cc in z)

@@ -1,24 +1,15 @@
 -- The law on the reading of a token, over all the Bodies that are open, the declarations and the head.
-use Rattle.std.proofs.Common.{◌≡◌, ◌⊎◌, inl, inr, ℕ, ◌+◌, ◌-◌, ◌^◌, ◌<◌, ◌≤◌, Bool, true, false, not, ◌&&◌, max, nat_le, nat_lt, nat_eq, List, [], ◌∷◌, ◌++◌, length, map, Option, Some, None, if◌then◌else◌, refl, sym, ap, ◌∙◌, subst, arith}
-use Rattle.std.proofs.lemmas.List.{append_assoc, append-nil}
-use Rattle.std.proofs.lemmas.Bool.{eqb-true}
-use borrow.Author.Tests.{lt-ltb, ltb-true}
+use Rattle.std.proofs.Common.{◌≡◌, ◌⊎◌, inl, inr, ℕ, ◌-◌, Bool, true, false, List, [], ◌∷◌, ◌++◌, Option, Some, None, refl, sym, ap, ◌∙◌, arith}
+use Rattle.std.proofs.lemmas.List.{append-nil}
 use Rattle.dream_words.specs.declared.machine.Name.{Name}
-use Rattle.dream_words.specs.declared.machine.Name.TheVariants as name
-use Rattle.c_syntax.specs.declared.syntax.CExpr.{CExpr}
-use Rattle.c_syntax.specs.declared.syntax.CCond.{CCond}
 use Rattle.c_syntax.specs.declared.syntax.CStmt.{CStmt, CStmt-F, roll-CStmt}
-use Rattle.c_syntax.specs.declared.syntax.CArm.{CArm, CArm-F, roll-CArm}
+use Rattle.c_syntax.specs.declared.syntax.CArm.{CArm, roll-CArm}
 use Rattle.c_syntax.specs.declared.syntax.CGroup.{CGroup, CGroup-F, roll-CGroup}
-use Rattle.c_syntax.specs.declared.syntax.CFun.{CFun}
 use Rattle.c_syntax.specs.declared.token.Token.{Token}
 use Rattle.c_syntax.specs.declared.token.Token.TheVariants as tok
-use Rattle.c_syntax.specs.Depth.{stmt_depth, stmts_depth}
-use Rattle.c_syntax.specs.Formed.{are_distinct, are_words, has_any, stmt_allowed, stmts_allowed, IsWellFormed}
+use Rattle.c_syntax.specs.Formed.{are_words, has_any}
 use Rattle.c_lex.specs.Lexemes.{IsToken}
 use Rattle.read_words.specs.declared.open.Locals.{Locals}
-use Rattle.read_words.specs.declared.open.Item.{Item}
-use Rattle.read_words.specs.declared.open.Wanted.TheVariants as want
 use Rattle.read_words.specs.declared.open.State as words_state
 use Rattle.read_words.specs.declared.open.State.TheVariants as state
 use Rattle.read_words.specs.declared.open.Open as words_open
@@ -27,15 +18,8 @@ use Rattle.read_words.specs.Turns.{Reading, scope}
 use Rattle.read_words.specs.Rests as words
 use Rattle.read_words.specs.Rests.{Follows}
 use Rattle.read_words.specs.Reads as words_reads
-use Rattle.read_words.proofs.Fitting.{both_true, two_true}
-use Rattle.read_words.proofs.Beginning.{head_of, tail_of}
+use Rattle.read_words.proofs.Beginning.{head_of}
 use Rattle.read_words.proofs.Steps as words_steps
-use Rattle.read_statements.specs.declared.open.Mark.{Mark}
-use Rattle.read_statements.specs.declared.open.Mark.TheVariants as mark
-use Rattle.read_statements.specs.declared.open.Head.{Head}
-use Rattle.read_statements.specs.declared.open.Head.TheVariants as head
-use Rattle.read_statements.specs.declared.open.Decl.{Decl}
-use Rattle.read_statements.specs.declared.open.Decl.TheVariants as decl
 use Rattle.read_statements.specs.declared.open.Use.{Use}
 use Rattle.read_statements.specs.declared.open.Use.TheVariants as use'
 use Rattle.read_statements.specs.declared.open.Switching.{Switching}
@@ -46,13 +30,13 @@ use Rattle.read_statements.specs.declared.open.Point.{Point}
 use Rattle.read_statements.specs.declared.open.Point.TheVariants as point
 use Rattle.read_statements.specs.declared.open.Turn.{Turn}
 use Rattle.read_statements.specs.declared.open.Turn.TheVariants as turn'
-use Rattle.read_statements.specs.Turns.{is_mark, expect, turn, after_part, wanted_for, Place, At, Inside, Body, breaks_in, breakable, depth_left, part, placed, done, settled_assign, settled_while, settled_if, shut, Outcome, Going, Ended, closed, turned, went, part_step, place_step, settled_step, body_step, with_group, State, Begun, Declaring, Within, Whole, start, fun_of, no_locals, may_declare, with_local, at_function, head_step, became, first_step, next_decl, at_local, decl_step, step_of}
-use Rattle.read_statements.specs.Rests.{Then, StmtRest, BodyRest, FitsStmt, FitsStmts, FitsArms, values_of, StmtsThen, Next, ElseThen, AfterElse, NestRest, NestThen, UseRest, UseThen, SourceThen, WhileThen, PointRest, Rests, BodyGoesOn, Ends, Declares, with_locals, names_tokens, Statements, DeclsThen, NamedThen, DeclRest, AddressThen, FunctionThen, HeadRest, GoesOn}
-use Rattle.read_statements.specs.Reads.{SwitchFits, DefaultFits, UseFits, NestFits, PointFits, PlaceFits, SomeFit, OpenFit, BodyFits, Bounds, HeadFits, HasLocal, IsRead, IsStep, OneToken}
+use Rattle.read_statements.specs.Turns.{turn, after_part, wanted_for, Place, At, Inside, Body, breaks_in, breakable, depth_left, placed, done, shut, Outcome, Going, Ended, closed, turned, went, part_step, settled_step, body_step, with_group}
+use Rattle.read_statements.specs.Rests.{Then, StmtRest, BodyRest, FitsStmt, FitsStmts, values_of, StmtsThen, Next, ElseThen, AfterElse, NestRest, NestThen, UseRest, UseThen, SourceThen, WhileThen, PointRest, Rests, BodyGoesOn}
+use Rattle.read_statements.specs.Reads.{SwitchFits, UseFits, NestFits, PointFits, PlaceFits, SomeFit, OpenFit, BodyFits}
 use Rattle.read_statements.proofs.Parts.{fits, arm_fits, group_fits, group_values_are, stmts_push, arms_push, groups_push}
 use Rattle.read_statements.proofs.Values.{values_push, words_back}
 use Rattle.read_statements.proofs.Opening.{else_open, else_none}
-use Rattle.read_statements.proofs.Turning.{mark_token, mark_same, mark_is, tail_in, IsSettled, IsTurn, turn_is, after_part_is, only_one}
+use Rattle.read_statements.proofs.Turning.{IsSettled, IsTurn, turn_is, after_part_is}
 
 no_truth : {A : Type 0} → false ≡ true → A
 no_truth h = absurd (let z : ⊥ = cc in z)
@@ -95,12 +79,12 @@ part_read l use'.While = record { open_fit = tt; state_fits = (refl, omega arith
 part_read l (use'.Do body) = record { open_fit = tt; state_fits = (refl, omega arith) }
 
 -- one arm more is some
-any_arm : (arms : List CArm) (a : CArm) → has_any (arms ++ a ∷ []) ≡ true
+pub any_arm : (arms : List CArm) (a : CArm) → has_any (arms ++ a ∷ []) ≡ true
 any_arm [] a = refl
 any_arm (x ∷ arms) a = refl
 
 -- a switch with one group more
-switch_fits : (l : Locals) (d : ℕ) (s : Switching) (vs : List ℕ) (body : List CStmt) → SwitchFits l d s vs → has_any vs ≡ true → FitsStmts l true (d - 1) body → SwitchFits l d (with_group s vs body) []
+pub switch_fits : (l : Locals) (d : ℕ) (s : Switching) (vs : List ℕ) (body : List CStmt) → SwitchFits l d s vs → has_any vs ≡ true → FitsStmts l true (d - 1) body → SwitchFits l d (with_group s vs body) []
 switch_fits l d s vs body f a g =
     let y : CGroup-F CStmt CArm CGroup = record { values = vs; body = body } in
     let w : are_words vs ≡ true = words_back (values_of l s.groups) vs (ap are_words (sym f.used) ∙ f.words) in
@@ -130,13 +114,13 @@ module _ (l : Locals) (k : BodyRest) where
     done_fits : (s : CStmt) → FitsStmt l (breakable os) (depth_left os) s → BodyFits l (done os ss s)
     done_fits s f = record { open_fit = fo; stmts_fit = stmts_push l (breakable os) (depth_left os) ss s fs f; place_fits = tt }
 
-    abbrev Shuts : Nest → List CStmt → List Token → Type 0
+    abbrev pub Shuts : Nest → List CStmt → List Token → Type 0
     Shuts n body ts =
         BodyFits l (shut os ss n body)
         × ((NestRest l (breakable os) (depth_left os) (Next l (breakable os) (depth_left os) (Rests l k os) ss) n body ts → BodyGoesOn l k (shut os ss n body) ts)
         × (BodyGoesOn l k (shut os ss n body) ts → NestRest l (breakable os) (depth_left os) (Next l (breakable os) (depth_left os) (Rests l k os) ss) n body ts))
 
-    shut_is : (n : Nest) (body : List CStmt) (ts : List Token) → NestFits l (breakable os) (depth_left os) n → FitsStmts l (breaks_in (breakable os) n) (depth_left os - 1) body → Shuts n body ts
+    pub shut_is : (n : Nest) (body : List CStmt) (ts : List Token) → NestFits l (breakable os) (depth_left os) n → FitsStmts l (breaks_in (breakable os) n) (depth_left os - 1) body → Shuts n body ts
     shut_is (nest.Arm arms c) body ts f g = (
       record {
         open_fit = fo;
@@ -180,8 +164,10 @@ module _ (l : Locals) (k : BodyRest) where
   turned_is os ss (Some (turn'.Done s)) ts before fo fs h = (done_fits os ss fo fs s h.0, h.1)
   turned_is os ss (Some (turn'.Opens n)) ts before fo fs h = (
     record { open_fit = (h.0, fs, fo); stmts_fit = tt; place_fits = tt },
-    ((λ a. nest_in l (breakable os) (depth_left os) (Next l (breakable os) (depth_left os) (Rests l k os) ss) n ts (h.1.0 a)),
-    (λ z. h.1.1 (nest_out l (breakable os) (depth_left os) (Next l (breakable os) (depth_left os) (Rests l k os) ss) n ts z))),
+    (
+      (λ a. nest_in l (breakable os) (depth_left os) (Next l (breakable os) (depth_left os) (Rests l k os) ss) n ts (h.1.0 a)),
+      (λ z. h.1.1 (nest_out l (breakable os) (depth_left os) (Next l (breakable os) (depth_left os) (Rests l k os) ss) n ts z)),
+    ),
   )
   turned_is os ss (Some turn'.Ends) ts before fo fs h = closed_is os ss ts before fo fs h.1.0 h.1.1
 

@@ -1,5 +1,5 @@
 -- Each token at a place in a Body is read exactly.
-use Rattle.std.proofs.Common.{◌≡◌, ◌⊎◌, inl, inr, ℕ, ◌+◌, ◌-◌, ◌^◌, ◌<◌, ◌≤◌, Bool, true, false, not, ◌&&◌, nat_le, nat_lt, List, [], ◌∷◌, ◌++◌, length, Option, Some, None, if◌then◌else◌, refl, sym, ap, ◌∙◌, subst, arith}
+use Rattle.std.proofs.Common.{◌≡◌, ◌⊎◌, inl, inr, ℕ, ◌^◌, ◌<◌, ◌≤◌, Bool, true, false, not, nat_le, List, [], ◌∷◌, ◌++◌, length, Option, Some, None, if◌then◌else◌, refl, sym, ap, ◌∙◌, subst}
 use Rattle.std.proofs.lemmas.List.{append_assoc}
 use borrow.Author.Tests.{lt-ltb, ltb-true, leb-true, le-leb}
 use Rattle.dream_words.specs.declared.machine.Name.{Name}
@@ -11,12 +11,11 @@ use Rattle.c_syntax.specs.declared.syntax.CStmt.{CStmt, CStmt-F, roll-CStmt}
 use Rattle.c_syntax.specs.declared.syntax.CArm.{CArm}
 use Rattle.c_syntax.specs.declared.token.Token.{Token}
 use Rattle.c_syntax.specs.declared.token.Token.TheVariants as tok
-use Rattle.c_syntax.specs.Formed.{is_target, are_distinct, are_words, has_any}
+use Rattle.c_syntax.specs.Formed.{is_target, are_distinct, has_any}
 use Rattle.c_lex.specs.Lexemes.{IsToken}
 use Rattle.read_words.specs.declared.open.Locals.{Locals}
 use Rattle.read_words.specs.declared.open.Item.{Item}
 use Rattle.read_words.specs.declared.open.Item.TheVariants as item
-use Rattle.read_words.specs.declared.open.Wanted.TheVariants as want
 use Rattle.read_words.specs.Turns.{scope}
 use Rattle.read_words.specs.Rests as words
 use Rattle.read_words.specs.Rests.{Follows, FitsWord, FitsCond}
@@ -27,14 +26,13 @@ use Rattle.read_statements.specs.declared.open.Mark.TheVariants as mark
 use Rattle.read_statements.specs.declared.open.Use.{Use}
 use Rattle.read_statements.specs.declared.open.Use.TheVariants as use'
 use Rattle.read_statements.specs.declared.open.Switching.{Switching}
-use Rattle.read_statements.specs.declared.open.Nest.{Nest}
 use Rattle.read_statements.specs.declared.open.Nest.TheVariants as nest
 use Rattle.read_statements.specs.declared.open.Point.{Point}
 use Rattle.read_statements.specs.declared.open.Point.TheVariants as point
 use Rattle.read_statements.specs.declared.open.Turn.{Turn}
 use Rattle.read_statements.specs.declared.open.Turn.TheVariants as turn'
 use Rattle.read_statements.specs.Turns.{is_mark, expect, at_stmt, at_load, trap_number, at_one, at_else, after_else, has_room, at_group, case_number, after_case, with_value, turn, after_word, after_cond, after_part, wanted_for}
-use Rattle.read_statements.specs.Rests.{Then, StmtRest, BodyRest, FitsStmt, StmtsThen, Next, ElseThen, AfterElse, GroupsThen, ValuesThen, CaseThen, NestThen, UseRest, UseThen, SourceThen, TrapThen, WhileThen, PointRest}
+use Rattle.read_statements.specs.Rests.{Then, BodyRest, FitsStmt, StmtsThen, Next, ElseThen, AfterElse, GroupsThen, ValuesThen, CaseThen, NestThen, UseRest, UseThen, SourceThen, TrapThen, WhileThen, PointRest}
 use Rattle.read_statements.specs.Reads.{SwitchFits, DefaultFits, UseFits, NestFits, PointFits, SomeFit}
 use Rattle.read_statements.proofs.Parts.{fits}
 use Rattle.read_statements.proofs.Values.{not_false, not_true, distinct_push, words_push, has_room_for}
@@ -117,7 +115,7 @@ num_of : {v w : ℕ} → tok.Num v ≡ tok.Num w → v ≡ w
 num_of h = cc
 
 -- one value more is some
-any_push : (vs : List ℕ) (v : ℕ) → has_any (vs ++ v ∷ []) ≡ true
+pub any_push : (vs : List ℕ) (v : ℕ) → has_any (vs ++ v ∷ []) ≡ true
 any_push [] v = refl
 any_push (w ∷ vs) v = refl
 
@@ -261,7 +259,7 @@ module _ (l : Locals) (b : Bool) (d : ℕ) (k : BodyRest) (ss : List CStmt) wher
       append_nil (x ∷ xs) = ap (λ q. x ∷ q) (append_nil xs)
 
   -- one value more
-  value_fits : (s : Switching) (vs : List ℕ) (v : ℕ) → SwitchFits l d s vs → v < 2 ^ 32 → has s.used v ≡ false → SwitchFits l d (with_value s v) (vs ++ v ∷ [])
+  pub value_fits : (s : Switching) (vs : List ℕ) (v : ℕ) → SwitchFits l d s vs → v < 2 ^ 32 → has s.used v ≡ false → SwitchFits l d (with_value s v) (vs ++ v ∷ [])
   value_fits s vs v f p n = record {
     deep = f.deep;
     word_fits = f.word_fits;

@@ -1,5 +1,5 @@
 -- The values of a switch: none stands twice, and while they are fewer than the words, one is left.
-use Rattle.std.proofs.Common.{◌≡◌, ◌⊎◌, inl, inr, ℕ, zero, suc, ◌+◌, ◌-◌, ◌^◌, ◌<◌, ◌≤◌, Bool, true, false, not, ◌&&◌, ◌||◌, nat_eq, nat_lt, eqb, if◌then◌else◌, List, [], ◌∷◌, ◌++◌, length, map, refl, sym, ap, ◌∙◌, subst, arith}
+use Rattle.std.proofs.Common.{◌≡◌, ◌⊎◌, inl, inr, ℕ, zero, suc, ◌^◌, ◌<◌, ◌≤◌, Bool, true, false, not, ◌||◌, nat_eq, eqb, if◌then◌else◌, List, [], ◌∷◌, ◌++◌, length, refl, sym, ap, ◌∙◌, arith}
 use Rattle.std.specs.List.{list_any, IsDistinct, AllByRecursion}
 use Rattle.std.proofs.lemmas.Bool.{eqb-true, eq-eqb}
 use Rattle.std.proofs.lemmas.List.{append_assoc}
@@ -8,7 +8,7 @@ use Rattle.std.proofs.lemmas.Map.Steps.{length-le_from_distinct_below, le-length
 use borrow.Author.Tests.{lt-ltb, ltb-true}
 use Rattle.run_parts.specs.Parts.{has}
 use Rattle.c_syntax.specs.declared.syntax.CGroup.{CGroup}
-use Rattle.c_syntax.specs.Formed.{is_word, are_distinct, are_words, groups_values, group_allowed}
+use Rattle.c_syntax.specs.Formed.{is_word, are_distinct, are_words, group_allowed}
 use Rattle.read_words.specs.declared.open.Locals.{Locals}
 use Rattle.read_words.specs.Turns.{scope}
 use Rattle.read_words.proofs.Fitting.{both_true, two_true}

@@ -4,16 +4,15 @@ use Rattle.dream_words.specs.declared.machine.Name.{Name}
 use Rattle.dream_words.specs.declared.machine.Width.{Width}
 use Rattle.run_parts.specs.Parts.{has}
 use Rattle.c_syntax.specs.declared.syntax.CExpr.{CExpr}
-use Rattle.c_syntax.specs.declared.syntax.CCond.{CCond}
 use Rattle.c_syntax.specs.declared.syntax.CStmt.{CStmt, CStmt-F, roll-CStmt}
 use Rattle.c_syntax.specs.declared.syntax.CArm.{CArm, roll-CArm}
-use Rattle.c_syntax.specs.declared.syntax.CGroup.{CGroup, roll-CGroup}
+use Rattle.c_syntax.specs.declared.syntax.CGroup.{CGroup}
 use Rattle.c_syntax.specs.declared.syntax.CFun.{CFun}
 use Rattle.c_syntax.specs.declared.token.Token.{Token}
 use Rattle.c_syntax.specs.declared.token.Token.TheVariants as tok
 use Rattle.c_syntax.specs.Tokens.{Tokens, all, body_tokens, more_arms, cases_tokens, stmt_tokens, arm_tokens, group_tokens}
 use Rattle.c_syntax.specs.Depth.{stmt_depth, arm_depth, group_depth}
-use Rattle.c_syntax.specs.Formed.{are_distinct, are_words, is_target, groups_values, stmt_allowed, arm_allowed, group_allowed}
+use Rattle.c_syntax.specs.Formed.{are_distinct, are_words, groups_values, stmt_allowed, arm_allowed, group_allowed}
 use Rattle.read_words.specs.declared.open.Locals.{Locals}
 use Rattle.read_words.specs.declared.open.Wanted.TheVariants as want
 use Rattle.read_words.specs.Turns.{scope}

@@ -7,7 +7,7 @@ use Rattle.c_syntax.specs.declared.syntax.CExpr.{CExpr}
 use Rattle.c_syntax.specs.declared.syntax.CCond.{CCond}
 use Rattle.c_syntax.specs.declared.syntax.CStmt.{CStmt, CStmt-F, roll-CStmt}
 use Rattle.c_syntax.specs.declared.syntax.CArm.{CArm, roll-CArm}
-use Rattle.c_syntax.specs.declared.syntax.CGroup.{CGroup, roll-CGroup}
+use Rattle.c_syntax.specs.declared.syntax.CGroup.{roll-CGroup}
 use Rattle.c_syntax.specs.declared.syntax.CFun.{CFun}
 use Rattle.c_syntax.specs.declared.token.Token.{Token}
 use Rattle.c_syntax.specs.declared.token.Token.TheVariants as tok
