@@ -1,5 +1,5 @@
 -- What is found by reading from an address on, a step at a time: what the functions that look for a window answer.
-use Rattle.std.specs.Prelude.{ℕ, zero, suc, ◌+◌, ◌-◌, ◌*◌, ◌%◌, ◌^◌, ◌&&◌, nat_lt, Bool, true, List, length, take, Option, Some, None, option_map, option_and_then, is_some, Result, Ok, Err, if◌then◌else◌}
+use Rattle.std.specs.Prelude.{ℕ, zero, suc, ◌+◌, ◌-◌, ◌*◌, ◌%◌, ◌^◌, ◌&&◌, nat_lt, Bool, true, List, length, take, Option, Some, None, option_map, option_and_then, is_some, Ok, Err, if◌then◌else◌}
 use Rattle.std.specs.List.{list_all}
 use Rattle.elf_image.specs.declared.image.Segment.{Segment}
 use Rattle.elf_image.specs.declared.range.Range.{Range}
@@ -11,7 +11,6 @@ use Rattle.x86_inst.specs.declared.Operand.{Operand}
 use Rattle.x86_inst.specs.declared.Operand.TheVariants as o
 use Rattle.x86_inst.specs.declared.Inst.{Inst}
 use Rattle.x86_inst.specs.declared.Inst.TheVariants as i
-use Rattle.x86_decode.specs.declared.fields.Stop.{Stop}
 use Rattle.x86_decode.specs.Reading.{Read, read_at}
 use Rattle.x86_model.specs.Operands.{bits_of}
 use Rattle.jump_tables.specs.Forms.{Index, Known, is_on_path, at_first, after, table_of}
