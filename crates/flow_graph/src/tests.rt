@@ -178,7 +178,10 @@ fn follows_a_table(rt: HostRuntime) -> Result<(), Fail> {
         let Ok(answer) = found_by_table(alloc, condition, table, 4)? else {
             return Err(Fail::from(AllocError));
         };
-        assert_eq!(rt; answer.places.as_slice(), [BASE, BASE + 12, BASE + 14].as_slice());
+        assert_eq!(rt;
+            answer.places.as_slice(),
+            [BASE, BASE + 12, BASE + 14].as_slice()
+        );
         assert!(rt; edges(alloc, &answer.graph)?.as_slice() == graph);
     }
     Ok(())

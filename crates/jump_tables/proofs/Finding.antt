@@ -1,30 +1,22 @@
 -- What is found is what the definitions say.
-use Rattle.std.proofs.Common.{◌≡◌, ℕ, zero, suc, ◌+◌, ◌-◌, ◌*◌, ◌%◌, ◌^◌, ◌<◌, ◌≤◌, Bool, true, false, ◌&&◌, nat_lt, if◌then◌else◌, List, [], ◌∷◌, ◌++◌, length, take, drop, Option, Some, None, option_map, option_and_then, is_some, Ok, Err, refl, sym, ap, ◌∙◌, subst, arith, length-append, length-drop}
+use Rattle.std.proofs.Common.{◌≡◌, ℕ, zero, suc, ◌+◌, ◌-◌, ◌≤◌, Bool, true, false, nat_lt, if◌then◌else◌, List, [], ◌∷◌, length, take, drop, Option, Some, None, option_map, option_and_then, Ok, Err, refl, sym, ap, ◌∙◌, subst, arith, length-append, length-drop}
 use Rattle.std.specs.List.{list_all}
 use Rattle.std.proofs.lemmas.Bool.{and_parts, and_from, ltb-true, lt-ltb}
 use Rattle.std.proofs.lemmas.List.{take_at, take-append-drop}
 use Rattle.elf_image.specs.declared.image.Segment.{Segment}
 use Rattle.elf_image.specs.declared.range.Range.{Range}
-use Rattle.elf_image.specs.Image.{frozen_byte}
 use Rattle.elf_image.specs.Range.{bytes_to_end}
-use Rattle.x86_inst.specs.declared.Size.{Size}
-use Rattle.x86_inst.specs.declared.AluOp.TheVariants.{Cmp}
-use Rattle.x86_inst.specs.declared.Cond.{Cond}
 use Rattle.x86_inst.specs.declared.Operand.{Operand}
-use Rattle.x86_inst.specs.declared.Operand.TheVariants as o
 use Rattle.x86_inst.specs.declared.Inst.{Inst}
 use Rattle.x86_inst.specs.declared.Inst.TheVariants as i
 use Rattle.x86_inst.specs.Spelling.{AreBytes, Spells}
-use Rattle.x86_decode.specs.declared.fields.Stop.{Stop}
 use Rattle.x86_decode.specs.Reading.{Read, read_at}
 use Rattle.x86_decode.proofs.Prefixed.{reads_all}
 use Rattle.x86_decode.proofs.Decoding.{again}
 use Rattle.machine.specs.Code.{BeginsAt}
-use Rattle.jump_tables.specs.Forms.{Index, Known, is_on_path, at_first, after, after_all, table_of}
-use Rattle.jump_tables.specs.Window.{Split, split, next_of, split_of, is_place, IsPath, IsWindow, IsWindowAt, IsInstAt}
-use Rattle.jump_tables.specs.Found.{as_found, found, comparison_of, branch_of, comparison_at, split_by, split_at, goal_of, unless_jump, jump_from, all_frozen, window_by, window_from, window_found}
-use Rattle.jump_tables.specs.declared.table.TableWindow.{TableWindow}
-use Rattle.jump_tables.specs.declared.windows.Comparison.{Comparison}
+use Rattle.jump_tables.specs.Forms.{Index, Known, is_on_path, after, after_all, table_of}
+use Rattle.jump_tables.specs.Window.{next_of, IsPath, IsInstAt}
+use Rattle.jump_tables.specs.Found.{as_found, found, goal_of, unless_jump, jump_from}
 
 -- ---- steps that may fail
 

@@ -10,7 +10,7 @@ use Rattle.x86_inst.specs.declared.Operand.{Operand}
 use Rattle.x86_inst.specs.declared.Operand.TheVariants as o
 use Rattle.x86_inst.specs.declared.Inst.{Inst}
 use Rattle.x86_inst.specs.declared.Inst.TheVariants as i
-use Rattle.x86_formed.specs.Formed.{is_register, is_formed_operand, is_formed_mem, are_formed, is_formed}
+use Rattle.x86_formed.specs.Formed.{is_register, is_formed_operand, is_formed_mem, is_formed}
 use Rattle.jump_tables.specs.declared.forms.Form.{Form}
 use Rattle.jump_tables.specs.declared.forms.Form.TheVariants as form
 use Rattle.jump_tables.specs.Forms.{Index, Forms, whole, whole_of, written, with_form, first_forms, at_first}

@@ -1,21 +1,19 @@
 -- A window stands where one is found, and no other one does.
-use Rattle.std.proofs.Common.{◌≡◌, ℕ, zero, suc, ◌+◌, ◌-◌, ◌*◌, ◌%◌, ◌^◌, ◌<◌, ◌≤◌, inl, inr, Bool, true, false, ◌&&◌, nat_lt, if◌then◌else◌, List, [], ◌∷◌, length, Option, Some, None, option_map, option_and_then, is_some, refl, sym, ap, ◌∙◌, subst, arith}
+use Rattle.std.proofs.Common.{◌≡◌, ℕ, zero, suc, ◌+◌, ◌*◌, ◌%◌, ◌^◌, ◌<◌, ◌≤◌, inl, inr, Bool, true, ◌&&◌, nat_lt, if◌then◌else◌, List, Option, Some, None, option_map, option_and_then, is_some, refl, sym, ap, subst, arith}
 use Rattle.std.proofs.lemmas.Bool.{and_parts, and_from, ltb-true, lt-ltb, cases_lt}
 use Rattle.elf_image.specs.declared.image.Segment.{Segment}
 use Rattle.elf_image.specs.declared.range.Range.{Range}
 use Rattle.elf_image.specs.Image.{frozen_byte}
 use Rattle.dream_words.specs.Words.{low_part}
-use Rattle.x86_inst.specs.declared.Size.{Size}
 use Rattle.x86_inst.specs.declared.AluOp.TheVariants.{Cmp}
 use Rattle.x86_inst.specs.declared.Cond.{Cond}
-use Rattle.x86_inst.specs.declared.Operand.{Operand}
 use Rattle.x86_inst.specs.declared.Operand.TheVariants as o
 use Rattle.x86_inst.specs.declared.Inst.{Inst}
 use Rattle.x86_inst.specs.declared.Inst.TheVariants as i
 use Rattle.x86_model.specs.Operands.{bits_of}
 use Rattle.machine.specs.Code.{BeginsAt}
 use Rattle.jump_tables.specs.Forms.{Index, at_first}
-use Rattle.jump_tables.specs.Window.{Split, split, next_of, split_of, is_place, IsWindow, HasNoWindow, IsWindowAt}
+use Rattle.jump_tables.specs.Window.{Split, split, next_of, split_of, is_place, IsWindow, IsWindowAt}
 use Rattle.jump_tables.specs.Found.{found, comparison_of, branch_of, comparison_at, split_by, split_at, jump_from, all_frozen, window_by, window_from, window_found}
 use Rattle.jump_tables.specs.Laws.{OneWindow}
 use Rattle.jump_tables.specs.declared.table.TableWindow.{TableWindow}

@@ -1,5 +1,5 @@
 -- One step of the way to a jump.
-use Rattle.std.proofs.Common.{◌≡◌, ℕ, zero, suc, Bool, true, false, if◌then◌else◌, List, length, take, Option, Some, None, IfSome, option_map, option_and_then, refl, sym, ap, ◌∙◌}
+use Rattle.std.proofs.Common.{◌≡◌, ℕ, suc, Bool, true, false, if◌then◌else◌, List, take, Option, Some, None, IfSome, option_map, option_and_then, ap, ◌∙◌}
 use Rattle.elf_image.specs.declared.image.Segment.{Segment}
 use Rattle.elf_image.specs.declared.range.Range.{Range}
 use Rattle.elf_image.specs.Range.{bytes_to_end}
@@ -10,7 +10,6 @@ use Rattle.x86_formed.proofs.Spelled.{spelled_is_formed}
 use Rattle.jump_tables.specs.Forms.{Index, Known, is_on_path, after, table_of}
 use Rattle.jump_tables.specs.Window.{next_of, IsInstAt}
 use Rattle.jump_tables.specs.Found.{found, goal_of, unless_jump, jump_from, comparison_at, window_from, window_found}
-use Rattle.jump_tables.specs.declared.table.TableWindow.{TableWindow}
 use Rattle.jump_tables.specs.declared.windows.Comparison.{Comparison}
 
 -- the instruction at an address is formed

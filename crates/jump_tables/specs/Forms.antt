@@ -13,7 +13,7 @@ use Rattle.x86_inst.specs.declared.AluOp.TheVariants.{Add}
 use Rattle.x86_inst.specs.declared.ShiftOp.TheVariants.{Shl}
 use Rattle.x86_inst.specs.declared.Inst.{Inst}
 use Rattle.x86_inst.specs.declared.Inst.TheVariants as i
-use Rattle.x86_model.specs.Successors.{is_memory, is_none}
+use Rattle.x86_model.specs.Successors.{is_memory}
 use Rattle.jump_tables.specs.declared.forms.Form.{Form}
 use Rattle.jump_tables.specs.declared.forms.Form.TheVariants as form
 

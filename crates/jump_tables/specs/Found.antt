@@ -1,5 +1,5 @@
 -- What is found by reading from an address on, a step at a time: what the functions that look for a window answer.
-use Rattle.std.specs.Prelude.{ℕ, zero, suc, ◌+◌, ◌-◌, ◌*◌, ◌%◌, ◌^◌, ◌&&◌, nat_lt, Bool, true, List, length, take, Option, Some, None, option_map, option_and_then, is_some, Result, Ok, Err, if◌then◌else◌}
+use Rattle.std.specs.Prelude.{ℕ, zero, suc, ◌+◌, ◌-◌, ◌*◌, ◌%◌, ◌^◌, ◌&&◌, nat_lt, Bool, true, List, length, take, Option, Some, None, option_map, option_and_then, is_some, Ok, Err, if◌then◌else◌}
 use Rattle.std.specs.List.{list_all}
 use Rattle.elf_image.specs.declared.image.Segment.{Segment}
 use Rattle.elf_image.specs.declared.range.Range.{Range}
@@ -11,7 +11,6 @@ use Rattle.x86_inst.specs.declared.Operand.{Operand}
 use Rattle.x86_inst.specs.declared.Operand.TheVariants as o
 use Rattle.x86_inst.specs.declared.Inst.{Inst}
 use Rattle.x86_inst.specs.declared.Inst.TheVariants as i
-use Rattle.x86_decode.specs.declared.fields.Stop.{Stop}
 use Rattle.x86_decode.specs.Reading.{Read, read_at}
 use Rattle.x86_model.specs.Operands.{bits_of}
 use Rattle.jump_tables.specs.Forms.{Index, Known, is_on_path, at_first, after, table_of}
@@ -47,10 +46,11 @@ unfoldable pub comparison_at : List Segment → Range → ℕ → Option Compari
 comparison_at m r a =
     option_and_then (λ d. option_map (λ c. record { index = c.0; bound = c.1; next = next_of a d.1 }) (comparison_of d.0)) (found m r a)
 
--- where the branch after a comparison leads, with the address after the branch
+-- where a branch with a condition and a distance leads after a comparison, with the address after the branch
 abbrev pub split_by : Comparison → ℕ → ℕ × ℕ → Option Split
 split_by c next b = split_of b.0 (low_part (bits_of c.index.size) c.bound) ((next + b.1) % 2 ^ 32) next
 
+-- where the branch after a comparison leads
 unfoldable pub split_at : List Segment → Range → Comparison → Option Split
 split_at m r c = option_and_then (λ d. option_and_then (split_by c (next_of c.next d.1)) (branch_of d.0)) (found m r c.next)
 
@@ -85,10 +85,11 @@ window_by m s j =
     if nat_lt 0 s.count && (nat_lt s.count 1025 && all_frozen m j.1 (4 * s.count))
     then Some (record { default = s.default; table = j.1; count = s.count; jump = j.0; path = s.path }) else None
 
--- the window at an address
+-- the window of a comparison
 unfoldable pub window_from : List Segment → Range → Comparison → Option TableWindow
 window_from m r c =
     option_and_then (λ s. option_and_then (window_by m s) (jump_from m r c.index 5 (at_first c.index) s.path)) (split_at m r c)
 
+-- the window at an address
 unfoldable pub window_found : List Segment → Range → ℕ → Option TableWindow
 window_found m r a = option_and_then (window_from m r) (comparison_at m r a)

@@ -1,5 +1,5 @@
 -- What the code knows at a place of a path, which has the forms of eight registers, as what the definitions know there.
-use Rattle.std.specs.Prelude.{ℕ, List, slice_index_or}
+use Rattle.std.specs.Prelude.{List, slice_index_or}
 use Rattle.jump_tables.specs.declared.forms.Form.{Form}
 use Rattle.jump_tables.specs.declared.forms.Form.TheVariants as form
 use Rattle.jump_tables.specs.declared.known.Known as known

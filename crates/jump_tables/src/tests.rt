@@ -44,7 +44,7 @@ fn told(alloc: Global, code: &[u8], table_flags: u32) -> Result<Option<(u32, u32
     let image = image(alloc, code, table_flags)?;
     let range = Range::new(ENTRY, u32::try_from(code.len())?);
     Ok(match window(&image, &range, ENTRY) {
-        Some(w) if w.table == TABLE => Some((w.default - ENTRY, w.jump - ENTRY, w.count)),
+        Some(w) if w.table == TABLE => Some((w.default, w.jump, w.count)),
         _ => None,
     })
 }
@@ -56,13 +56,13 @@ fn windows_are_found(rt: HostRuntime) -> Result<(), Fail> {
         (
             b"\x83\xf8\x02\x77\x07\xff\x24\x85\0\x90\x04\x08\x31\xc0\xc3",
             4,
-            Some((12, 5, 3)),
+            Some((ENTRY + 12, ENTRY + 5, 3)),
         ),
         // jae
         (
             b"\x83\xf8\x02\x73\x07\xff\x24\x85\0\x90\x04\x08\x31\xc0\xc3",
             4,
-            Some((12, 5, 2)),
+            Some((ENTRY + 12, ENTRY + 5, 2)),
         ),
         // jg
         (
@@ -86,13 +86,13 @@ fn windows_are_found(rt: HostRuntime) -> Result<(), Fail> {
         (
             b"\x3c\x02\x76\x01\xc3\x0f\xb6\xc0\x8b\x04\x85\0\x90\x04\x08\xff\xe0",
             4,
-            Some((4, 15, 3)),
+            Some((ENTRY + 4, ENTRY + 15, 3)),
         ),
         // cmp eax, 3; jb +1; ret; shl eax, 2; add eax, table; jmp [eax]
         (
             b"\x83\xf8\x03\x72\x01\xc3\xc1\xe0\x02\x05\0\x90\x04\x08\xff\x20",
             4,
-            Some((5, 14, 3)),
+            Some((ENTRY + 5, ENTRY + 14, 3)),
         ),
         // cmp eax, 2; ja +7; jmp [2 * eax + table]; ret
         (

@@ -20,6 +20,8 @@ use x86_inst::{AluOp, Inst, Operand, Size};
 // The jump, and at most four instructions before it.
 const MOST_STEPS: u32 = 5;
 
+const MOST_ENTRIES: u64 = 1024;
+
 /// A comparison of an index with a number, and the address after it.
 #[derive(Drop)]
 struct Comparison {
@@ -172,7 +174,7 @@ fn window_from(m: &Image, r: &Range, c: &Comparison) -> Option<TableWindow>
 {
     let split = split_at(m, r, c)?;
     let (jump, table) = jump_from(m, r, &c.index, split.path)?;
-    if split.count == 0 || split.count > 1024 {
+    if split.count == 0 || split.count > MOST_ENTRIES {
         return None;
     }
     let count = split.count as u32;

@@ -1,4 +1,4 @@
-use Rattle.std.proofs.Common.{◌≡◌, ◌*◌, ◌<◌, None, sym, ◌∙◌, rules, arith}
+use Rattle.std.proofs.Common.{◌≡◌, ◌*◌, None, sym, ◌∙◌, rules, arith}
 use Rattle.jump_tables.proofs.Tables.{unfrozen}
 use Rattle.jump_tables.proofs.table.is_frozen.Goals as goal
 

@@ -1,8 +1,8 @@
-use Rattle.std.proofs.Common.{◌≡◌, ℕ, suc, ◌+◌, ◌-◌, true, false, Some, None, option_map, rules, arith, sym, ap, ◌∙◌}
-use Rattle.jump_tables.specs.Forms.{Known, is_on_path, after, table_of}
+use Rattle.std.proofs.Common.{◌≡◌, suc, ◌+◌, ◌-◌, true, false, None, option_map, rules, arith, sym, ap, ◌∙◌}
+use Rattle.jump_tables.specs.Forms.{Known}
 use Rattle.jump_tables.specs.Window.{next_of}
 use Rattle.jump_tables.specs.Known.{known_of}
-use Rattle.jump_tables.specs.Found.{found, goal_of, jump_from}
+use Rattle.jump_tables.specs.Found.{jump_from}
 use Rattle.jump_tables.proofs.Steps.{jump_nowhere, jump_here, jump_later, jump_never, jump_past}
 use Rattle.jump_tables.proofs.windows.jump_from.Goals as goal
 
