@@ -1,5 +1,5 @@
 -- Where a part is entered, and where it is left.
-use Rattle.std.specs.Prelude.{◌≡◌, ℕ, ◌≢◌, ◌⊎◌, ◌↔◌, List, [], Option, Bool, IsTrue, length, Contains, slice_index_or}
+use Rattle.std.specs.Prelude.{ℕ, ◌≢◌, ◌⊎◌, ◌↔◌, List, [], Option, Bool, IsTrue, Contains, slice_index_or}
 use Rattle.std.specs.List.Sorted.{IsStrictlyIncreasing}
 use Rattle.graph_order.specs.Graph.{Digraph, HasEdge}
 use Rattle.graph_loops.specs.Owners.{StandsIn}

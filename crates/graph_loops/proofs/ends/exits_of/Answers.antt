@@ -1,4 +1,4 @@
-use Rattle.std.proofs.Common.{length, arith, rules, subst, take}
+use Rattle.std.proofs.Common.{arith, rules, subst}
 use Rattle.std.proofs.lemmas.List.{take_all}
 use Rattle.std.proofs.lemmas.List.Filters.{dedup_is}
 use Rattle.std.proofs.lemmas.List.Sorted.{IsNonDecreasingBy-from_sort_by_key}

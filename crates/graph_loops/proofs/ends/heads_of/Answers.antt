@@ -1,4 +1,4 @@
-use Rattle.std.proofs.Common.{◌≡◌, ◌<◌, length, map, arith, ap, subst, ◌∙◌, [], ◌⊎◌}
+use Rattle.std.proofs.Common.{◌<◌, length, map, arith, ap, subst, ◌∙◌, [], ◌⊎◌}
 use Rattle.std.specs.Prelude.{slice_index_or, ◌↔◌, IsTrue}
 use Rattle.graph_loops.specs.Owners.{StandsIn}
 use Rattle.graph_loops.specs.Ends.{HasTwo}

@@ -1,4 +1,4 @@
-use Rattle.std.proofs.Common.{◌≡◌, ◌<◌, length, map, arith, sym, subst, ap, ◌∙◌, [], get_or, false, Bool}
+use Rattle.std.proofs.Common.{◌≡◌, ◌<◌, length, map, arith, sym, subst, ap, ◌∙◌, [], get_or, false}
 use Rattle.std.specs.Prelude.{slice_index_or, ◌↔◌, Contains, IsTrue}
 use Rattle.std.specs.List.Sorted.{IsStrictlyIncreasing}
 use Rattle.std.proofs.lemmas.List.{length-map, get_or_read}

@@ -1,5 +1,4 @@
 use Rattle.std.proofs.Common.{◌≡◌, length, map, arith, subst, ap, ◌∙◌}
-use Rattle.std.specs.Prelude.{slice_index_or}
 use Rattle.std.proofs.lemmas.List.{length-map}
 use Rattle.graph_loops.specs.Owners.{Owns}
 use Rattle.graph_loops.proofs.Lists.{refill}
