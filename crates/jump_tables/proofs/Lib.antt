@@ -1,5 +1,5 @@
 mod Finding
-mod Standing
+pub mod Standing
 mod Fronts
 mod Tables
 mod Registers

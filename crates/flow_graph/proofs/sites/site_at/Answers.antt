@@ -1,4 +1,4 @@
-use Rattle.std.proofs.Common.{◌≡◌, ℕ, ◌-◌, IfOk, Result, Ok, Err, List, length, take, drop, length-drop, arith}
+use Rattle.std.proofs.Common.{◌≡◌, ℕ, ◌-◌, IfOk, Result, Ok, Err, List, None, length, take, drop, filter, length-drop, arith}
 use Rattle.std.proofs.lemmas.List.{take_all}
 use Rattle.std.specs.declared.alloc.AllocError.{AllocError}
 use Rattle.elf_image.specs.declared.image.Segment.{Segment}
@@ -14,6 +14,11 @@ use Rattle.flow_graph.proofs.Frozen.{inside_bounds}
 use Rattle.flow_graph.proofs.Reading.{decoded_at, window_stands, instruction_stands}
 use Rattle.flow_graph.proofs.sites.site_at.Goals as goal
 
+window_by : (m : List Segment) (r : Range) (a : ℕ) (w : TableWindow) → IsWindow m r a w → (res : Result Site AllocError)
+    → IfOk res (λ s. s.successors.items ≡ filter (is_inside r) (window_successors m w)) → IfOk res (λ s. s.cause ≡ None) → IfOk res (λ s. IsSite m r a s.successors.items s.cause)
+window_by m r a w h (Ok s) is why = window_stands m r a w s.successors.items s.cause h is why
+window_by m r a w h (Err e) is why = tt
+
 instruction_by : (m : List Segment) (r : Range) (a : ℕ) (d : Decoded) → HasNoWindow m r a → Decodes (bytes_to_end m r a) d → (res : Result Site AllocError)
     → IfOk res (λ s. s.successors.items ≡ found_successors r a d) → IfOk res (λ s. s.cause ≡ found_cause r a d) → IfOk res (λ s. IsSite m r a s.successors.items s.cause)
 instruction_by m r a d none h (Ok s) is why = instruction_stands m r a d s.successors.items s.cause none h is why
@@ -21,6 +26,10 @@ instruction_by m r a d none h (Err e) is why = tt
 
 same_rest : (code : List ℕ) (k : ℕ) → take (length code - k) (drop k code) ≡ drop k code
 same_rest code k = take_all (length code - k) (drop k code) (omega (arith, length-drop k code))
+
+pub returns-in-Some : goal.returns-in-Some
+returns-in-Some c =
+    window_by c.args.m.now c.args.r.now c.args.at c.in-Some.w (c.in-Some.ensures {u = tt}) c.window_site.result c.window_site.ensures.successors c.window_site.ensures.cause
 
 pub returns-in-None : goal.returns-in-None
 returns-in-None c =
