@@ -47,30 +47,16 @@ fn found(alloc: Global, code: &[u8], size: u32) -> Result<Result<Found, FlowFaul
     found_in(alloc, &bytes, size)
 }
 
-// EAX is compared with 2, a branch by the condition leads past a jump through the table at TABLE, and there EAX is
+// EAX is compared with 2, a branch with the opcode leads past a jump through the table at TABLE, and there EAX is
 // cleared before the return.
 fn found_by_table(
     alloc: Global,
-    condition: u8,
+    branch: u8,
     table: &[u32],
     flags: u32,
 ) -> Result<Result<Found, FlowFault>, Fail> {
     let code = [
-        0x83,
-        0xf8,
-        2,
-        0x70 + condition,
-        7,
-        0xff,
-        0x24,
-        0x85,
-        0,
-        0x90,
-        4,
-        8,
-        0x31,
-        0xc0,
-        0xc3,
+        0x83, 0xf8, 2, branch, 7, 0xff, 0x24, 0x85, 0, 0x90, 4, 8, 0x31, 0xc0, 0xc3,
     ];
     let size = u32::try_from(4 * table.len())?;
     let mut bytes = file(alloc, &code, &[segment(0x1000, TABLE, size, flags)])?;
@@ -170,12 +156,12 @@ fn follows_a_table(rt: HostRuntime) -> Result<(), Fail> {
     let table = [BASE + 12, BASE + 14, BASE + 12];
     let rows: [(u8, &[u32], &[(u32, u32)]); 2] = [
         // Above: the default, and three entries.
-        (7, &table, &[(0, 1), (0, 1), (0, 2), (0, 1), (1, 2)]),
+        (0x77, &table, &[(0, 1), (0, 1), (0, 2), (0, 1), (1, 2)]),
         // Above or equal: the default, and two entries.
-        (3, &table[..2], &[(0, 1), (0, 1), (0, 2), (1, 2)]),
+        (0x73, &table[..2], &[(0, 1), (0, 1), (0, 2), (1, 2)]),
     ];
-    for (condition, table, graph) in rows {
-        let Ok(answer) = found_by_table(alloc, condition, table, 4)? else {
+    for (branch, table, graph) in rows {
+        let Ok(answer) = found_by_table(alloc, branch, table, 4)? else {
             return Err(Fail::from(AllocError));
         };
         assert_eq!(rt;
@@ -194,7 +180,7 @@ fn refuses_a_table(rt: HostRuntime) -> Result<(), Fail> {
     // A table that can be written, and one that is too short.
     let rows: [(&[u32], u32); 2] = [(&table, 6), (&table[..2], 4)];
     for (table, flags) in rows {
-        let Err(fault) = found_by_table(alloc, 7, table, flags)? else {
+        let Err(fault) = found_by_table(alloc, 0x77, table, flags)? else {
             return Err(Fail::from(AllocError));
         };
         let place = Place {
