@@ -1,0 +1,4 @@
+mod Imaged
+mod Weighed
+mod Summed
+mod Zipped
