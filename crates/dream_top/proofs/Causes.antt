@@ -1,5 +1,5 @@
 -- Each answer excludes the causes of the others.
-use Rattle.std.proofs.Common.{◌≡◌, ◌⊎◌, inl, inr, refl, ap, subst, arith, ℕ, ◌<◌, ◌≤◌, List, length, Some, None, Ok, Err}
+use Rattle.std.proofs.Common.{◌≡◌, ◌⊎◌, inl, inr, refl, sym, ap, subst, arith, ℕ, ◌<◌, ◌≤◌, List, length, Some, None, Ok, Err}
 use Rattle.std.specs.Option.{IsSomeAnd}
 use Rattle.std.specs.Io.KnownBytes.{Appends}
 use Rattle.dream_outside.specs.Causes.{Store, Rose, IsUnheld, HoldsAt}
@@ -7,6 +7,9 @@ use Rattle.elf_image.specs.declared.image.Segment.{Segment}
 use Rattle.elf_image.specs.declared.image.ElfFault.{ElfFault}
 use Rattle.elf_image.specs.declared.range.Range.{Range}
 use Rattle.elf_image.specs.Image.{image_of}
+use Rattle.elf_symbols.specs.declared.find.FindFault.{FindFault}
+use Rattle.elf_symbols.specs.declared.find.FindFault.TheVariants as find
+use Rattle.elf_symbols.specs.Functions.{function_named}
 use Rattle.flow_graph.specs.declared.place.Place.{Place}
 use Rattle.flow_graph.proofs.OnePlaces.{one_place}
 use Rattle.flow_graph.specs.Place.{NamedPlace, NamedAfter, IsLeastPlace, HasNoPlace}
@@ -15,8 +18,9 @@ use Rattle.run_lines.specs.StartWords.{given_by}
 use Rattle.dream_top.specs.Runs.{IsRunText}
 use Rattle.dream_top.specs.declared.status.Status.{Status}
 use Rattle.dream_top.specs.declared.status.Status.TheVariants.{Done, Usage, ReadFault, WriteFault, NoMemory, NotElf, NoFunction, Outside, FileTooLarge, NotProfile}
-use Rattle.dream_top.specs.CommandLine.{Target, Command, Decompile, Run, Prelude, function_of}
-use Rattle.dream_top.specs.Answers.{limit, Reading, Writing, Holds, IsReadFault, Loads, StopsIn, Made, Makes, Answers, AnswersFunction, Writes}
+use Rattle.dream_top.specs.CommandLine.{Func, Named, Target, Command, Decompile, Run, Prelude, function_of}
+use Rattle.dream_top.specs.Answers.{limit, Reading, Writing, Holds, IsReadFault, IsTooLarge, Loads, range_in, Finds, FindsNone, IsNotElf, IsNoFunction, LoadsFunction, StopsIn, Made, Makes, Answers, AnswersFunction, Writes}
+use Rattle.dream_top.specs.Loading.{find_status}
 use Rattle.dream_top.specs.Header.{header_text}
 use Rattle.dream_top.specs.Laws.{HasNoFault, NoRefusalWithoutCause, EachCauseHasItsAnswer}
 
@@ -41,10 +45,54 @@ held_or_none (Some files) path bytes at un = cc
 no_read_fault : (i : Reading) (path bytes : List ℕ) → HoldsAt i.held path bytes → (Rose i.faults i.faults_now → ⊥) → IsReadFault i path → ⊥
 no_read_fault i path bytes at quiet f = elim f.cause [ inl rose ↦ quiet rose | inr un ↦ held_or_none i.held path bytes at un ]
 
--- the image that was loaded is that of the bytes that are held
-same_image : (i : Reading) (path bytes : List ℕ) (m n : List Segment) → HoldsAt i.held path bytes → image_of bytes ≡ Ok m
-    → Loads i path (λ all. image_of all ≡ Ok n) → n ≡ m
-same_image i path bytes m n at image l = let e = (held_is i.held path bytes (λ all. (length all ≤ limit) × (image_of all ≡ Ok n)) at l.held).1 in cc
+-- a file that was loaded is no longer than the limit, and its bytes are such
+loaded_small : (i : Reading) (path bytes : List ℕ) (P : List ℕ → Type 0) → HoldsAt i.held path bytes → Loads i path P → (length bytes ≤ limit) × P bytes
+loaded_small i path bytes P at l = held_is i.held path bytes (λ all. (length all ≤ limit) × P all) at l.held
+
+too_long : (i : Reading) (path bytes : List ℕ) → HoldsAt i.held path bytes → length bytes ≤ limit → IsTooLarge i path → ⊥
+too_long i path bytes at small t = let long : limit < length bytes = held_is i.held path bytes (λ all. limit < length all) at t.held in omega arith
+
+-- ---- what FUNC says
+
+-- one image, and one range
+one_image : (bytes : List ℕ) (func : Func) (m n : List Segment) (r q : Range) → Finds m bytes func r → Finds n bytes func q → n ≡ m
+one_image bytes func m n r q a b = let d = a.image in let e = b.image in cc
+
+one_range : (bytes : List ℕ) (func : Func) (m n : List Segment) (r q : Range) → Finds m bytes func r → Finds n bytes func q → q ≡ r
+one_range bytes func m n r q a b = let d = a.range in let e = b.range in cc
+
+-- a function that is found isn't refused
+found_or_none : (bytes : List ℕ) (func : Func) (m : List Segment) (r : Range) (why : FindFault) → Finds m bytes func r → FindsNone bytes func why → ⊥
+found_or_none bytes func m r why a b = let d = a.range in let e = b.range in cc
+
+found_or_broken : (bytes : List ℕ) (func : Func) (m : List Segment) (r : Range) (fault : ElfFault) → Finds m bytes func r → IsNotElf bytes func fault → ⊥
+found_or_broken bytes func m r fault a b = elim b [
+  | inl d ↦ let e = a.image in cc
+  | inr none ↦ found_or_none bytes func m r (find.Elf fault) a none
+]
+
+-- there is one reason why none is found
+one_reason : (bytes : List ℕ) (func : Func) (why other : FindFault) → FindsNone bytes func why → FindsNone bytes func other → other ≡ why
+one_reason bytes func why other a b = let d = a.range in let e = b.range in cc
+
+-- a file that has no image
+image_or_broken : (bytes : List ℕ) (func : Func) (m : List Segment) (r : Range) (fault : ElfFault) → image_of bytes ≡ Err fault → Finds m bytes func r → ⊥
+image_or_broken bytes func m r fault d a = let e = a.image in cc
+
+image_or_none : (bytes : List ℕ) (func : Func) (fault : ElfFault) (why : FindFault) → image_of bytes ≡ Err fault → FindsNone bytes func why → ⊥
+image_or_none bytes func fault why d a = let e = a.image in cc
+
+-- the file of a function that was loaded has the function
+loaded_found : (i : Reading) (f : Target) (bytes : List ℕ) (P : List Segment → Range → Type 0) → HoldsAt i.held f.path bytes → (l : LoadsFunction i f P)
+    → Finds l.m bytes f.func l.r
+loaded_found i f bytes P at l = (loaded_small i f.path bytes (λ all. Finds l.m all f.func l.r) at l.loads).1
+
+-- what is so of the function that was loaded is so of the one that the bytes have
+loaded_such : (i : Reading) (f : Target) (bytes : List ℕ) (m : List Segment) (r : Range) (P : List Segment → Range → Type 0) → HoldsAt i.held f.path bytes → Finds m bytes f.func r
+    → LoadsFunction i f P → P m r
+loaded_such i f bytes m r P at found l =
+    let here = loaded_found i f bytes P at l in
+    subst (λ n. P n r) (one_image bytes f.func m l.m r l.r found here) (subst (λ q. P l.m q) (one_range bytes f.func m l.m r l.r found here) l.holds)
 
 -- ---- commands
 
@@ -71,55 +119,50 @@ named_or_none m r p named none = let l : IsLeastPlace m r p = subst (λ o. Named
 
 -- ---- the laws
 
-done_or_memory : (P : Made) (s : Status) (i : Reading) (o : Writing) (c : Target) (bytes : List ℕ) (m : List Segment) → HoldsAt i.held c.path bytes → length bytes ≤ limit
-    → image_of bytes ≡ Ok m → HasNoPlace m c.range → HasNoFault i o → AnswersFunction P s i o c → (s ≡ Done) ⊎ (s ≡ NoMemory)
-done_or_memory P Done i o c bytes m at small image none quiet a = inl refl
-done_or_memory P NoMemory i o c bytes m at small image none quiet a = inr refl
-done_or_memory P WriteFault i o c bytes m at small image none quiet a = absurd (quiet.out a.2.rose)
-done_or_memory P ReadFault i o c bytes m at small image none quiet a = absurd (no_read_fault i c.path bytes at quiet.files a.0)
-done_or_memory P FileTooLarge i o c bytes m at small image none quiet a =
-    let long : limit < length bytes = held_is i.held c.path bytes (λ all. limit < length all) at a.0.held in absurd (omega arith)
-done_or_memory P (NotElf f) i o c bytes m at small image none quiet a =
-    let e = (held_is i.held c.path bytes (λ all. (length all ≤ limit) × (image_of all ≡ Err f)) at a.0.held).1 in absurd (cc)
-done_or_memory P (Outside p) i o c bytes m at small image none quiet a =
-    let e : a.0.0 ≡ m = same_image i c.path bytes m a.0.0 at image a.0.1 in
-    absurd (named_or_none m c.range p (subst (λ n. NamedPlace n c.range p) e a.0.2) none)
-done_or_memory P Usage i o c bytes m at small image none quiet a = absurd a.0
-done_or_memory P NoFunction i o c bytes m at small image none quiet a = absurd a.0
-done_or_memory P (NotProfile k) i o c bytes m at small image none quiet a = absurd a.0
+done_or_memory : (P : Made) (s : Status) (i : Reading) (o : Writing) (f : Target) (bytes : List ℕ) (m : List Segment) (r : Range) → HoldsAt i.held f.path bytes → length bytes ≤ limit
+    → Finds m bytes f.func r → HasNoPlace m r → HasNoFault i o → AnswersFunction P s i o f → (s ≡ Done) ⊎ (s ≡ NoMemory)
+done_or_memory P Done i o f bytes m r at small found none quiet a = inl refl
+done_or_memory P NoMemory i o f bytes m r at small found none quiet a = inr refl
+done_or_memory P WriteFault i o f bytes m r at small found none quiet a = absurd (quiet.out a.2.rose)
+done_or_memory P ReadFault i o f bytes m r at small found none quiet a = absurd (no_read_fault i f.path bytes at quiet.files a.0)
+done_or_memory P FileTooLarge i o f bytes m r at small found none quiet a = absurd (too_long i f.path bytes at small a.0)
+done_or_memory P (NotElf g) i o f bytes m r at small found none quiet a =
+    absurd (found_or_broken bytes f.func m r g found (loaded_small i f.path bytes (λ all. IsNotElf all f.func g) at a.0).1)
+done_or_memory P NoFunction i o f bytes m r at small found none quiet a =
+    absurd (found_or_none bytes f.func m r find.NoFunction found (loaded_small i f.path bytes (λ all. IsNoFunction all f.func) at a.0).1)
+done_or_memory P (Outside p) i o f bytes m r at small found none quiet a =
+    absurd (named_or_none m r p (loaded_such i f bytes m r (λ n q. NamedPlace n q p) at found a.0) none)
+done_or_memory P Usage i o f bytes m r at small found none quiet a = absurd a.0
+done_or_memory P (NotProfile k) i o f bytes m r at small found none quiet a = absurd a.0
 
 pub no_refusal_without_cause : NoRefusalWithoutCause
-no_refusal_without_cause words i o c f bytes m s accepted none quiet a =
+no_refusal_without_cause words i o c f bytes m r s accepted none quiet a =
     by_command ((s ≡ Done) ⊎ (s ≡ NoMemory)) c s i o f accepted.function (subst (λ asked. Answers s i o asked) accepted.command a)
-    (λ P named b. done_or_memory P s i o f bytes m accepted.held accepted.small accepted.image none quiet b)
+    (λ P named b. done_or_memory P s i o f bytes m r accepted.held accepted.small accepted.found none quiet b)
 
 fault_or_memory : (P : Made) (i : Reading) (o : Writing) (c : Target) (s : Status) → IsUnheld i.held c.path → AnswersFunction P s i o c → (s ≡ ReadFault) ⊎ (s ≡ NoMemory)
 fault_or_memory P i o c ReadFault un a = inl refl
 fault_or_memory P i o c NoMemory un a = inr refl
-fault_or_memory P i o c Done un a = absurd (none_held i.held c.path _ un a.1.1.held)
-fault_or_memory P i o c WriteFault un a = absurd (none_held i.held c.path _ un a.1.1.held)
+fault_or_memory P i o c Done un a = absurd (none_held i.held c.path _ un a.1.loads.held)
+fault_or_memory P i o c WriteFault un a = absurd (none_held i.held c.path _ un a.1.loads.held)
 fault_or_memory P i o c FileTooLarge un a = absurd (none_held i.held c.path _ un a.0.held)
 fault_or_memory P i o c (NotElf f) un a = absurd (none_held i.held c.path _ un a.0.held)
-fault_or_memory P i o c (Outside p) un a = absurd (none_held i.held c.path _ un a.0.1.held)
+fault_or_memory P i o c NoFunction un a = absurd (none_held i.held c.path _ un a.0.held)
+fault_or_memory P i o c (Outside p) un a = absurd (none_held i.held c.path _ un a.0.loads.held)
 fault_or_memory P i o c Usage un a = absurd a.0
-fault_or_memory P i o c NoFunction un a = absurd a.0
 fault_or_memory P i o c (NotProfile k) un a = absurd a.0
-
--- a file that was loaded is no longer than the limit
-loaded_small : (i : Reading) (path bytes : List ℕ) (P : List ℕ → Type 0) → HoldsAt i.held path bytes → Loads i path P → (length bytes ≤ limit) × P bytes
-loaded_small i path bytes P at l = held_is i.held path bytes (λ all. (length all ≤ limit) × P all) at l.held
 
 long_or_memory : (P : Made) (i : Reading) (o : Writing) (c : Target) (bytes : List ℕ) (s : Status) → HoldsAt i.held c.path bytes → limit < length bytes
     → (Rose i.faults i.faults_now → ⊥) → AnswersFunction P s i o c → (s ≡ FileTooLarge) ⊎ (s ≡ NoMemory)
 long_or_memory P i o c bytes FileTooLarge at long quiet a = inl refl
 long_or_memory P i o c bytes NoMemory at long quiet a = inr refl
-long_or_memory P i o c bytes Done at long quiet a = let small : length bytes ≤ limit = (loaded_small i c.path bytes _ at a.1.1).0 in absurd (omega arith)
-long_or_memory P i o c bytes WriteFault at long quiet a = let small : length bytes ≤ limit = (loaded_small i c.path bytes _ at a.1.1).0 in absurd (omega arith)
+long_or_memory P i o c bytes Done at long quiet a = let small : length bytes ≤ limit = (loaded_small i c.path bytes _ at a.1.loads).0 in absurd (omega arith)
+long_or_memory P i o c bytes WriteFault at long quiet a = let small : length bytes ≤ limit = (loaded_small i c.path bytes _ at a.1.loads).0 in absurd (omega arith)
 long_or_memory P i o c bytes ReadFault at long quiet a = absurd (no_read_fault i c.path bytes at quiet a.0)
 long_or_memory P i o c bytes (NotElf f) at long quiet a = let small : length bytes ≤ limit = (loaded_small i c.path bytes _ at a.0).0 in absurd (omega arith)
-long_or_memory P i o c bytes (Outside p) at long quiet a = let small : length bytes ≤ limit = (loaded_small i c.path bytes _ at a.0.1).0 in absurd (omega arith)
+long_or_memory P i o c bytes NoFunction at long quiet a = let small : length bytes ≤ limit = (loaded_small i c.path bytes _ at a.0).0 in absurd (omega arith)
+long_or_memory P i o c bytes (Outside p) at long quiet a = let small : length bytes ≤ limit = (loaded_small i c.path bytes _ at a.0.loads).0 in absurd (omega arith)
 long_or_memory P i o c bytes Usage at long quiet a = absurd a.0
-long_or_memory P i o c bytes NoFunction at long quiet a = absurd a.0
 long_or_memory P i o c bytes (NotProfile k) at long quiet a = absurd a.0
 
 -- after more bytes than the limit no other answer comes
@@ -127,61 +170,86 @@ many_or_memory : (P : Made) (i : Reading) (o : Writing) (c : Target) (s : Status
     → (s ≡ FileTooLarge) ⊎ (s ≡ NoMemory)
 many_or_memory P i o c FileTooLarge few many a = inl refl
 many_or_memory P i o c NoMemory few many a = inr refl
-many_or_memory P i o c Done few many a = let small : i.got_now ≤ limit = a.1.1.got in absurd (omega arith)
-many_or_memory P i o c WriteFault few many a = let small : i.got_now ≤ limit = a.1.1.got in absurd (omega arith)
+many_or_memory P i o c Done few many a = let small : i.got_now ≤ limit = a.1.loads.got in absurd (omega arith)
+many_or_memory P i o c WriteFault few many a = let small : i.got_now ≤ limit = a.1.loads.got in absurd (omega arith)
 many_or_memory P i o c ReadFault few many a = let same : i.got_now ≡ i.got = a.0.within many in absurd (omega arith)
 many_or_memory P i o c (NotElf f) few many a = let small : i.got_now ≤ limit = a.0.got in absurd (omega arith)
-many_or_memory P i o c (Outside p) few many a = let small : i.got_now ≤ limit = a.0.1.got in absurd (omega arith)
+many_or_memory P i o c NoFunction few many a = let small : i.got_now ≤ limit = a.0.got in absurd (omega arith)
+many_or_memory P i o c (Outside p) few many a = let small : i.got_now ≤ limit = a.0.loads.got in absurd (omega arith)
 many_or_memory P i o c Usage few many a = absurd a.0
-many_or_memory P i o c NoFunction few many a = absurd a.0
 many_or_memory P i o c (NotProfile k) few many a = absurd a.0
 
--- a fault is none of an image that was loaded
-not_broken : (i : Reading) (path bytes : List ℕ) (f : ElfFault) (m : List Segment) → HoldsAt i.held path bytes → image_of bytes ≡ Err f
-    → Loads i path (λ all. image_of all ≡ Ok m) → ⊥
-not_broken i path bytes f m at image l = let e = (loaded_small i path bytes (λ all. image_of all ≡ Ok m) at l).1 in cc
+-- a file that has no image has one fault
+one_fault : (bytes : List ℕ) (func : Func) (f g : ElfFault) → image_of bytes ≡ Err f → IsNotElf bytes func g → g ≡ f
+one_fault bytes func f g d b = elim b [
+  | inl e ↦ cc
+  | inr none ↦ absurd (image_or_none bytes func f (find.Elf g) d none)
+]
 
 broken_or_memory : (P : Made) (i : Reading) (o : Writing) (c : Target) (bytes : List ℕ) (f : ElfFault) (s : Status) → HoldsAt i.held c.path bytes
     → length bytes ≤ limit → image_of bytes ≡ Err f → (Rose i.faults i.faults_now → ⊥) → AnswersFunction P s i o c → (s ≡ NotElf f) ⊎ (s ≡ NoMemory)
 broken_or_memory P i o c bytes f (NotElf g) at small image quiet a =
-    let e = (loaded_small i c.path bytes (λ all. image_of all ≡ Err g) at a.0).1 in
-    let same : g ≡ f = cc in
-    inl (ap NotElf same)
+    inl (ap NotElf (one_fault bytes c.func f g image (loaded_small i c.path bytes (λ all. IsNotElf all c.func g) at a.0).1))
 broken_or_memory P i o c bytes f NoMemory at small image quiet a = inr refl
-broken_or_memory P i o c bytes f Done at small image quiet a = absurd (not_broken i c.path bytes f a.1.0 at image a.1.1)
-broken_or_memory P i o c bytes f WriteFault at small image quiet a = absurd (not_broken i c.path bytes f a.1.0 at image a.1.1)
+broken_or_memory P i o c bytes f Done at small image quiet a = absurd (image_or_broken bytes c.func a.1.m a.1.r f image (loaded_found i c bytes _ at a.1))
+broken_or_memory P i o c bytes f WriteFault at small image quiet a = absurd (image_or_broken bytes c.func a.1.m a.1.r f image (loaded_found i c bytes _ at a.1))
 broken_or_memory P i o c bytes f ReadFault at small image quiet a = absurd (no_read_fault i c.path bytes at quiet a.0)
-broken_or_memory P i o c bytes f FileTooLarge at small image quiet a =
-    let long : limit < length bytes = held_is i.held c.path bytes (λ all. limit < length all) at a.0.held in absurd (omega arith)
-broken_or_memory P i o c bytes f (Outside p) at small image quiet a = absurd (not_broken i c.path bytes f a.0.0 at image a.0.1)
+broken_or_memory P i o c bytes f FileTooLarge at small image quiet a = absurd (too_long i c.path bytes at small a.0)
+broken_or_memory P i o c bytes f NoFunction at small image quiet a =
+    absurd (image_or_none bytes c.func f find.NoFunction image (loaded_small i c.path bytes (λ all. IsNoFunction all c.func) at a.0).1)
+broken_or_memory P i o c bytes f (Outside p) at small image quiet a = absurd (image_or_broken bytes c.func a.0.m a.0.r f image (loaded_found i c bytes _ at a.0))
 broken_or_memory P i o c bytes f Usage at small image quiet a = absurd a.0
-broken_or_memory P i o c bytes f NoFunction at small image quiet a = absurd a.0
 broken_or_memory P i o c bytes f (NotProfile k) at small image quiet a = absurd a.0
 
--- a range of which something was made names no place
-not_named : (P : Made) → NamesNone P → (i : Reading) (c : Target) (bytes text : List ℕ) (m : List Segment) (p : Place) → HoldsAt i.held c.path bytes → image_of bytes ≡ Ok m
-    → NamedPlace m c.range p → Makes P i c text → ⊥
-not_named P quiet i c bytes text m p at image named d =
-    let e : d.0 ≡ m = same_image i c.path bytes m d.0 at image d.1 in
-    named_or_none m c.range p named (subst (λ n. HasNoPlace n c.range) e (quiet d.0 c.range text d.2))
+-- the reason that is told is the one
+told_reason : (bytes : List ℕ) (func : Func) (why : FindFault) (g : ElfFault) → FindsNone bytes func why → IsNotElf bytes func g → NotElf g ≡ find_status why
+told_reason bytes func why g none b = elim b [
+  | inl e ↦ absurd (image_or_none bytes func g why e none)
+  | inr other ↦ ap find_status (one_reason bytes func why (find.Elf g) none other)
+]
 
-outside_or_memory : (P : Made) → NamesNone P → (i : Reading) (o : Writing) (c : Target) (bytes : List ℕ) (m : List Segment) (p : Place) (s : Status) → HoldsAt i.held c.path bytes
-    → length bytes ≤ limit → image_of bytes ≡ Ok m → NamedPlace m c.range p → (Rose i.faults i.faults_now → ⊥) → AnswersFunction P s i o c
+none_or_memory : (P : Made) (i : Reading) (o : Writing) (c : Target) (bytes : List ℕ) (why : FindFault) (s : Status) → HoldsAt i.held c.path bytes
+    → length bytes ≤ limit → FindsNone bytes c.func why → (Rose i.faults i.faults_now → ⊥) → AnswersFunction P s i o c → (s ≡ find_status why) ⊎ (s ≡ NoMemory)
+none_or_memory P i o c bytes why (NotElf g) at small none quiet a =
+    inl (told_reason bytes c.func why g none (loaded_small i c.path bytes (λ all. IsNotElf all c.func g) at a.0).1)
+none_or_memory P i o c bytes why NoFunction at small none quiet a =
+    inl (ap find_status (one_reason bytes c.func why find.NoFunction none (loaded_small i c.path bytes (λ all. IsNoFunction all c.func) at a.0).1))
+none_or_memory P i o c bytes why NoMemory at small none quiet a = inr refl
+none_or_memory P i o c bytes why Done at small none quiet a = absurd (found_or_none bytes c.func a.1.m a.1.r why (loaded_found i c bytes _ at a.1) none)
+none_or_memory P i o c bytes why WriteFault at small none quiet a = absurd (found_or_none bytes c.func a.1.m a.1.r why (loaded_found i c bytes _ at a.1) none)
+none_or_memory P i o c bytes why ReadFault at small none quiet a = absurd (no_read_fault i c.path bytes at quiet a.0)
+none_or_memory P i o c bytes why FileTooLarge at small none quiet a = absurd (too_long i c.path bytes at small a.0)
+none_or_memory P i o c bytes why (Outside p) at small none quiet a = absurd (found_or_none bytes c.func a.0.m a.0.r why (loaded_found i c bytes _ at a.0) none)
+none_or_memory P i o c bytes why Usage at small none quiet a = absurd a.0
+none_or_memory P i o c bytes why (NotProfile k) at small none quiet a = absurd a.0
+
+-- a name that has no function, for a reason
+none_named : (bytes : List ℕ) (m : List Segment) (func : Func) (name : List ℕ) (why : FindFault) → image_of bytes ≡ Ok m → func ≡ Named name → function_named bytes name ≡ Err why
+    → FindsNone bytes func why
+none_named bytes m func name why image e none = record { m = m; image = image; range = subst (λ x. range_in bytes x ≡ Err why) (sym e) none }
+
+-- a range of which something was made names no place
+not_named : (P : Made) → NamesNone P → (i : Reading) (c : Target) (bytes text : List ℕ) (m : List Segment) (r : Range) (p : Place) → HoldsAt i.held c.path bytes → Finds m bytes c.func r
+    → NamedPlace m r p → Makes P i c text → ⊥
+not_named P quiet i c bytes text m r p at found named d =
+    named_or_none m r p named (quiet m r text (loaded_such i c bytes m r (λ n q. P n q text) at found d))
+
+outside_or_memory : (P : Made) → NamesNone P → (i : Reading) (o : Writing) (c : Target) (bytes : List ℕ) (m : List Segment) (r : Range) (p : Place) (s : Status) → HoldsAt i.held c.path bytes
+    → length bytes ≤ limit → Finds m bytes c.func r → NamedPlace m r p → (Rose i.faults i.faults_now → ⊥) → AnswersFunction P s i o c
     → (s ≡ Outside p) ⊎ (s ≡ NoMemory)
-outside_or_memory P none i o c bytes m p (Outside q) at small image named quiet a =
-    let e : a.0.0 ≡ m = same_image i c.path bytes m a.0.0 at image a.0.1 in
-    inl (ap Outside (one_place m c.range q p (subst (λ n. NamedPlace n c.range q) e a.0.2) named))
-outside_or_memory P none i o c bytes m p NoMemory at small image named quiet a = inr refl
-outside_or_memory P none i o c bytes m p Done at small image named quiet a = absurd (not_named P none i c bytes a.0 m p at image named a.1)
-outside_or_memory P none i o c bytes m p WriteFault at small image named quiet a = absurd (not_named P none i c bytes a.0 m p at image named a.1)
-outside_or_memory P none i o c bytes m p ReadFault at small image named quiet a = absurd (no_read_fault i c.path bytes at quiet a.0)
-outside_or_memory P none i o c bytes m p FileTooLarge at small image named quiet a =
-    let long : limit < length bytes = held_is i.held c.path bytes (λ all. limit < length all) at a.0.held in absurd (omega arith)
-outside_or_memory P none i o c bytes m p (NotElf f) at small image named quiet a =
-    let e = (held_is i.held c.path bytes (λ all. (length all ≤ limit) × (image_of all ≡ Err f)) at a.0.held).1 in absurd (cc)
-outside_or_memory P none i o c bytes m p Usage at small image named quiet a = absurd a.0
-outside_or_memory P none i o c bytes m p NoFunction at small image named quiet a = absurd a.0
-outside_or_memory P none i o c bytes m p (NotProfile k) at small image named quiet a = absurd a.0
+outside_or_memory P none i o c bytes m r p (Outside q) at small found named quiet a =
+    inl (ap Outside (one_place m r q p (loaded_such i c bytes m r (λ n t. NamedPlace n t q) at found a.0) named))
+outside_or_memory P none i o c bytes m r p NoMemory at small found named quiet a = inr refl
+outside_or_memory P none i o c bytes m r p Done at small found named quiet a = absurd (not_named P none i c bytes a.0 m r p at found named a.1)
+outside_or_memory P none i o c bytes m r p WriteFault at small found named quiet a = absurd (not_named P none i c bytes a.0 m r p at found named a.1)
+outside_or_memory P none i o c bytes m r p ReadFault at small found named quiet a = absurd (no_read_fault i c.path bytes at quiet a.0)
+outside_or_memory P none i o c bytes m r p FileTooLarge at small found named quiet a = absurd (too_long i c.path bytes at small a.0)
+outside_or_memory P none i o c bytes m r p (NotElf f) at small found named quiet a =
+    absurd (found_or_broken bytes c.func m r f found (loaded_small i c.path bytes (λ all. IsNotElf all c.func f) at a.0).1)
+outside_or_memory P none i o c bytes m r p NoFunction at small found named quiet a =
+    absurd (found_or_none bytes c.func m r find.NoFunction found (loaded_small i c.path bytes (λ all. IsNoFunction all c.func) at a.0).1)
+outside_or_memory P none i o c bytes m r p Usage at small found named quiet a = absurd a.0
+outside_or_memory P none i o c bytes m r p (NotProfile k) at small found named quiet a = absurd a.0
 
 -- a text that is known before is written, or a front of it is
 written : (s : Status) (o : Writing) (text : List ℕ) → Writes s o text
@@ -198,9 +266,15 @@ each_cause_has_its_answer = record {
   too_large = λ i o c f bytes s at long quiet e a. by_command ((s ≡ FileTooLarge) ⊎ (s ≡ NoMemory)) c s i o f e a (λ P none b. long_or_memory P i o f bytes s at long quiet b);
   broken = λ i o c f bytes fault s at small image quiet e a.
       by_command ((s ≡ NotElf fault) ⊎ (s ≡ NoMemory)) c s i o f e a (λ P none b. broken_or_memory P i o f bytes fault s at small image quiet b);
-  outside = λ words i o c f bytes m p s accepted named quiet a.
+  broken_sections = λ i o c f bytes m name fault s at small image named none quiet e a.
+      by_command ((s ≡ NotElf fault) ⊎ (s ≡ NoMemory)) c s i o f e a
+      (λ P made b. none_or_memory P i o f bytes (find.Elf fault) s at small (none_named bytes m f.func name (find.Elf fault) image named none) quiet b);
+  no_function = λ i o c f bytes m name s at small image named none quiet e a.
+      by_command ((s ≡ NoFunction) ⊎ (s ≡ NoMemory)) c s i o f e a
+      (λ P made b. none_or_memory P i o f bytes find.NoFunction s at small (none_named bytes m f.func name find.NoFunction image named none) quiet b);
+  outside = λ words i o c f bytes m r p s accepted named quiet a.
       by_command ((s ≡ Outside p) ⊎ (s ≡ NoMemory)) c s i o f accepted.function (subst (λ asked. Answers s i o asked) accepted.command a)
-      (λ P none b. outside_or_memory P none i o f bytes m p s accepted.held accepted.small accepted.image named quiet b);
+      (λ P none b. outside_or_memory P none i o f bytes m r p s accepted.held accepted.small accepted.found named quiet b);
   prelude = λ i o s a. written s o header_text a.writes;
   prelude_done = λ i o s quiet a. elim (written s o header_text a.writes) [ inl done ↦ done.0 | inr stopped ↦ absurd (quiet stopped.1.rose) ];
 }

@@ -1,16 +1,20 @@
 -- What each status of the program says of the words, the files and the streams that it was given.
-use Rattle.std.specs.Prelude.{◌≡◌, ◌⊎◌, ℕ, ◌<◌, ◌≤◌, List, ◌++◌, length, Option, Some, None, Ok, Err}
+use Rattle.std.specs.Prelude.{◌≡◌, ◌⊎◌, ℕ, ◌<◌, ◌≤◌, List, ◌++◌, length, Option, Some, None, Result, Ok, Err}
 use Rattle.std.specs.Option.{IsSomeAnd}
 use Rattle.std.specs.Io.KnownBytes.{Keeps, Appends}
 use Rattle.dream_outside.specs.Causes.{Store, Rose, IsUnheld}
 use Rattle.elf_image.specs.declared.image.Segment.{Segment}
+use Rattle.elf_image.specs.declared.image.ElfFault.{ElfFault}
 use Rattle.elf_image.specs.Image.{image_of}
+use Rattle.elf_symbols.specs.declared.find.FindFault.{FindFault}
+use Rattle.elf_symbols.specs.declared.find.FindFault.TheVariants as find
+use Rattle.elf_symbols.specs.Functions.{function_named}
 use Rattle.flow_graph.specs.Place.{NamedPlace}
 use Rattle.elf_image.specs.declared.range.Range.{Range}
 use Rattle.dream_engine.specs.Agreement.{IsDecompiled}
 use Rattle.dream_top.specs.declared.status.Status.{Status}
 use Rattle.dream_top.specs.declared.status.Status.TheVariants.{Done, Usage, ReadFault, WriteFault, NoMemory, NotElf, NoFunction, Outside, FileTooLarge, NotProfile}
-use Rattle.dream_top.specs.CommandLine.{Target, Command, Decompile, Run, Prelude}
+use Rattle.dream_top.specs.CommandLine.{Func, At, Named, Target, Command, Decompile, Run, Prelude}
 use Rattle.dream_top.specs.Runs.{IsRunText}
 use Rattle.run_lines.specs.StartWords.{given_by}
 use Rattle.dream_top.specs.Header.{header_text}
@@ -82,42 +86,59 @@ pub record Loads (i : Reading) (path : List ℕ) (P : List ℕ → Type 0) : Typ
   pub got : i.got_now ≤ limit
   pub held : Holds i.held path (λ bytes. (length bytes ≤ limit) × P bytes)
 
--- the file at the path has an image, which is such
-abbrev pub LoadsImage : Reading → List ℕ → (List Segment → Type 0) → Type 0
-LoadsImage i path P = (m : List Segment) × Loads i path (λ bytes. image_of bytes ≡ Ok m) × P m
+-- ---- which function is meant
+
+-- The range that FUNC says in a file's bytes, or why it says none: a name says that of the first function of the name.
+abbrev pub range_in : List ℕ → Func → Result Range FindFault
+range_in bytes (At r) = Ok r
+range_in bytes (Named name) = function_named bytes name
+
+-- the bytes have this image, and FUNC says this range in them
+pub record Finds (m : List Segment) (bytes : List ℕ) (func : Func) (r : Range) : Type 0 where
+  pub image : image_of bytes ≡ Ok m
+  pub range : range_in bytes func ≡ Ok r
+
+-- the bytes have an image, and FUNC says no range in them, for this reason
+pub record FindsNone (bytes : List ℕ) (func : Func) (why : FindFault) : Type 0 where
+  pub m : List Segment
+  pub image : image_of bytes ≡ Ok m
+  pub range : range_in bytes func ≡ Err why
+
+-- The bytes have no image for this fault, or they have one, and it is a fault of the sections in which FUNC, a name, is to
+-- be found.
+abbrev pub IsNotElf : List ℕ → Func → ElfFault → Type 0
+IsNotElf bytes func fault = (image_of bytes ≡ Err fault) ⊎ FindsNone bytes func (find.Elf fault)
+
+-- the bytes have an image, and FUNC is a name that no function of theirs has
+abbrev pub IsNoFunction : List ℕ → Func → Type 0
+IsNoFunction bytes func = FindsNone bytes func find.NoFunction
+
+-- the file at the path has an image and the range that FUNC says, which are such
+pub record LoadsFunction (i : Reading) (f : Target) (P : List Segment → Range → Type 0) : Type 0 where
+  pub m : List Segment
+  pub r : Range
+  pub loads : Loads i f.path (λ bytes. Finds m bytes f.func r)
+  pub holds : P m r
 
 -- what a text is of a range of an image: that of a function in a form, or the two lines of its runs
 abbrev pub Made : Type 1
 Made = List Segment → Range → List ℕ → Type 0
 
--- the text is what is to be made of the range of the file
+-- the text is what is to be made of the function
 abbrev pub Makes : Made → Reading → Target → List ℕ → Type 0
-Makes P i f text = LoadsImage i f.path (λ m. P m f.range text)
-
--- why the image of a file can't be had
-abbrev pub IsUnread : Status → Reading → List ℕ → Type 0
-IsUnread ReadFault i path = IsReadFault i path
-IsUnread FileTooLarge i path = IsTooLarge i path
-IsUnread (NotElf fault) i path = Loads i path (λ bytes. image_of bytes ≡ Err fault)
-IsUnread NoMemory i path = Unit {0}
-IsUnread (Outside place) i path = ⊥
-IsUnread Done i path = ⊥
-IsUnread Usage i path = ⊥
-IsUnread WriteFault i path = ⊥
-IsUnread NoFunction i path = ⊥
-IsUnread (NotProfile at) i path = ⊥
+Makes P i f text = LoadsFunction i f (λ m r. P m r text)
 
 -- why a function is refused before anything is written
 abbrev pub Refuses : Status → Reading → Target → Type 0
 Refuses ReadFault i f = IsReadFault i f.path
 Refuses FileTooLarge i f = IsTooLarge i f.path
-Refuses (NotElf fault) i f = Loads i f.path (λ bytes. image_of bytes ≡ Err fault)
-Refuses (Outside place) i f = LoadsImage i f.path (λ m. NamedPlace m f.range place)
+Refuses (NotElf fault) i f = Loads i f.path (λ bytes. IsNotElf bytes f.func fault)
+Refuses NoFunction i f = Loads i f.path (λ bytes. IsNoFunction bytes f.func)
+Refuses (Outside place) i f = LoadsFunction i f (λ m r. NamedPlace m r place)
 Refuses NoMemory i f = Unit {0}
 Refuses Done i f = ⊥
 Refuses Usage i f = ⊥
 Refuses WriteFault i f = ⊥
-Refuses NoFunction i f = ⊥
 Refuses (NotProfile at) i f = ⊥
 
 -- ---- the answers

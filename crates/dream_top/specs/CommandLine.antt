@@ -9,10 +9,13 @@ use Rattle.dream_engine.specs.declared.form.Form.{Form}
 use Rattle.dream_engine.specs.declared.form.Form.TheVariants.{Structured, Plain}
 use Rattle.run_lines.specs.Numbers.{count_of}
 use Rattle.run_lines.specs.StartWords.{are_start_words}
+use Rattle.dream_top.specs.declared.words.Func as words_func
+use Rattle.dream_top.specs.declared.words.Func.TheVariants as func_variant
+use Rattle.dream_top.specs.declared.words.Target as words_target
 use Rattle.dream_top.specs.declared.words.Command as words
 use Rattle.dream_top.specs.declared.words.Command.TheVariants as variant
 
--- ---- FUNC, where it is an address form
+-- ---- FUNC
 
 -- the value of a hexadecimal digit: `0` to `9`, `a` to `f` or `A` to `F`
 abbrev pub hex_digit : ℕ → Option ℕ
@@ -40,15 +43,29 @@ sum_form sum =
 abbrev pub address_form : List ℕ → Option Range
 address_form func = if starts_with nat_eq func (codes "0x") then sum_form (drop 2 func) else None
 
+-- what FUNC says: a function's addresses, or its name
+pub data Func : Type 0 where
+  At : Range → Func
+  Named : List ℕ → Func
+
+-- a FUNC with the range of its address form, if it is one: every other is a name
+abbrev pub func_with : List ℕ → Option Range → Func
+func_with func (Some r) = At r
+func_with func None = Named func
+
+-- an address form says its range, and every other FUNC is a name
+abbrev pub func_of : List ℕ → Func
+func_of func = func_with func (address_form func)
+
 -- ---- the commands
 
--- a function: the range of the file at a path
+-- a function: what FUNC says of the file at a path
 pub record Target : Type 0 where
   pub path : List ℕ
-  pub range : Range
+  pub func : Func
 
-abbrev pub target : List ℕ → Range → Target
-target path range = record { path = path; range = range }
+abbrev pub target : List ℕ → Func → Target
+target path func = record { path = path; func = func }
 
 -- what the words ask for: the C of a function in a form, its runs of so many steps from a start that words give, or the
 -- header that each text includes
@@ -63,21 +80,30 @@ function_of (Decompile form f) = Some f
 function_of (Run f n words) = Some f
 function_of Prelude = None
 
+-- what the program's FUNC says
+abbrev pub func_said : words_func.Func → Func
+func_said (func_variant.At r) = At r
+func_said (func_variant.Named name) = Named name.now
+
+-- the function of the program's words
+abbrev pub target_said : words_target.Target → Target
+target_said t = target t.path.now (func_said t.func)
+
 -- what the program's command asks for
 abbrev pub asked_by : words.Command → Command
-asked_by (variant.Decompile form f) = Decompile form (target f.path.now f.range)
-asked_by (variant.Run f n words) = Run (target f.path.now f.range) n (map string_bytes words.now)
+asked_by (variant.Decompile form f) = Decompile form (target_said f)
+asked_by (variant.Run f n words) = Run (target_said f) n (map string_bytes words.now)
 asked_by variant.Prelude = Prelude
 
 -- `decompile` asks for the structured form, and `plain` for the plain one.
 abbrev pub form_named : List ℕ → Option Form
 form_named name = if bytes_eq name (codes "decompile") then Some Structured else (if bytes_eq name (codes "plain") then Some Plain else None)
 
--- PATH is not empty, and FUNC is an address form.
-abbrev pub function_at : List ℕ → Option Range → Option Target
+-- PATH and FUNC are not empty.
+abbrev pub function_at : List ℕ → List ℕ → Option Target
 function_at [] func = None
-function_at (b ∷ bs) None = None
-function_at (b ∷ bs) (Some r) = Some (target (b ∷ bs) r)
+function_at (b ∷ bs) [] = None
+function_at (b ∷ bs) (c ∷ cs) = Some (target (b ∷ bs) (func_of (c ∷ cs)))
 
 -- a form and a function, where there are both
 abbrev pub asks : Option Form → Option Target → Option Command
@@ -87,7 +113,7 @@ asks (Some form) (Some f) = Some (Decompile form f)
 
 -- `decompile PATH FUNC` and `plain PATH FUNC`
 abbrev pub function_asked : List (List ℕ) → Option Command
-function_asked (name ∷ path ∷ func ∷ []) = asks (form_named name) (function_at path (address_form func))
+function_asked (name ∷ path ∷ func ∷ []) = asks (form_named name) (function_at path func)
 function_asked _ = None
 
 -- a function, and a count of steps
@@ -99,7 +125,7 @@ asks_run (Some f) (Some n) words = Some (Run f n words)
 -- `run PATH FUNC N WORD ..`: N is 0 to 1,000,000, and each of at most 64 WORDs says something of the start.
 abbrev pub run_asked : List (List ℕ) → Option Command
 run_asked (name ∷ path ∷ func ∷ n ∷ words) =
-    if bytes_eq name (codes "run") && are_start_words words then asks_run (function_at path (address_form func)) (count_of 0 1000000 n) words else None
+    if bytes_eq name (codes "run") && are_start_words words then asks_run (function_at path func) (count_of 0 1000000 n) words else None
 run_asked _ = None
 
 -- a command, or else another

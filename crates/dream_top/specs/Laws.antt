@@ -4,13 +4,16 @@ use Rattle.std.specs.Io.KnownBytes.{Appends}
 use Rattle.dream_outside.specs.Causes.{Rose, IsUnheld, HoldsAt}
 use Rattle.elf_image.specs.declared.image.Segment.{Segment}
 use Rattle.elf_image.specs.declared.image.ElfFault.{ElfFault}
+use Rattle.elf_image.specs.declared.range.Range.{Range}
 use Rattle.elf_image.specs.Image.{image_of}
+use Rattle.elf_symbols.specs.declared.find.FindFault.TheVariants as find
+use Rattle.elf_symbols.specs.Functions.{function_named}
 use Rattle.flow_graph.specs.declared.place.Place.{Place}
 use Rattle.flow_graph.specs.Place.{NamedPlace, HasNoPlace}
 use Rattle.dream_top.specs.declared.status.Status.{Status}
-use Rattle.dream_top.specs.declared.status.Status.TheVariants.{Done, Usage, ReadFault, WriteFault, NoMemory, NotElf, Outside, FileTooLarge}
-use Rattle.dream_top.specs.CommandLine.{Target, Command, function_of, command_of}
-use Rattle.dream_top.specs.Answers.{limit, Reading, Writing, StopsIn, Answers}
+use Rattle.dream_top.specs.declared.status.Status.TheVariants.{Done, Usage, ReadFault, WriteFault, NoMemory, NotElf, NoFunction, Outside, FileTooLarge}
+use Rattle.dream_top.specs.CommandLine.{Named, Target, Command, function_of, command_of}
+use Rattle.dream_top.specs.Answers.{limit, Reading, Writing, Finds, StopsIn, Answers}
 use Rattle.dream_top.specs.Header.{header_text}
 
 -- no count of faults rose
@@ -18,20 +21,21 @@ pub record HasNoFault (i : Reading) (o : Writing) : Type 0 where
   pub files : Rose i.faults i.faults_now → ⊥
   pub out : Rose o.faults o.faults_now → ⊥
 
--- The words ask for a function, its path holds these bytes, within the limit, and they have this image.
-pub record IsAccepted (words : List (List ℕ)) (i : Reading) (c : Command) (f : Target) (bytes : List ℕ) (m : List Segment) : Type 0 where
+-- The words ask for a function, its path holds these bytes, within the limit, and they have this image and the function, which
+-- is at this range.
+pub record IsAccepted (words : List (List ℕ)) (i : Reading) (c : Command) (f : Target) (bytes : List ℕ) (m : List Segment) (r : Range) : Type 0 where
   pub command : command_of words ≡ Some c
   pub function : function_of c ≡ Some f
   pub held : HoldsAt i.held f.path bytes
   pub small : length bytes ≤ limit
-  pub image : image_of bytes ≡ Ok m
+  pub found : Finds m bytes f.func r
 
--- Completeness: a function whose file is accepted and whose range has no place outside the profile is done, unless a count
--- of faults rises or memory runs out.
+-- Completeness: a function that its file has, where the file is accepted and the range has no place outside the profile, is
+-- done, unless a count of faults rises or memory runs out.
 abbrev pub NoRefusalWithoutCause : Type 0
 NoRefusalWithoutCause =
-    (words : List (List ℕ)) (i : Reading) (o : Writing) (c : Command) (f : Target) (bytes : List ℕ) (m : List Segment) (s : Status)
-    → IsAccepted words i c f bytes m → HasNoPlace m f.range → HasNoFault i o → Answers s i o (command_of words) → (s ≡ Done) ⊎ (s ≡ NoMemory)
+    (words : List (List ℕ)) (i : Reading) (o : Writing) (c : Command) (f : Target) (bytes : List ℕ) (m : List Segment) (r : Range) (s : Status)
+    → IsAccepted words i c f bytes m r → HasNoPlace m r → HasNoFault i o → Answers s i o (command_of words) → (s ≡ Done) ⊎ (s ≡ NoMemory)
 
 -- Each cause has its answer, unless the count of faults of the files rises or memory runs out.
 pub record EachCauseHasItsAnswer : Type 0 where
@@ -48,9 +52,17 @@ pub record EachCauseHasItsAnswer : Type 0 where
   -- a file that breaks a rule
   pub broken : (i : Reading) (o : Writing) (c : Command) (f : Target) (bytes : List ℕ) (fault : ElfFault) (s : Status) → HoldsAt i.held f.path bytes
       → length bytes ≤ limit → image_of bytes ≡ Err fault → (Rose i.faults i.faults_now → ⊥) → function_of c ≡ Some f → Answers s i o (Some c) → (s ≡ NotElf fault) ⊎ (s ≡ NoMemory)
+  -- a name that is to be found in broken sections of a file that has an image
+  pub broken_sections : (i : Reading) (o : Writing) (c : Command) (f : Target) (bytes : List ℕ) (m : List Segment) (name : List ℕ) (fault : ElfFault) (s : Status)
+      → HoldsAt i.held f.path bytes → length bytes ≤ limit → image_of bytes ≡ Ok m → f.func ≡ Named name → function_named bytes name ≡ Err (find.Elf fault)
+      → (Rose i.faults i.faults_now → ⊥) → function_of c ≡ Some f → Answers s i o (Some c) → (s ≡ NotElf fault) ⊎ (s ≡ NoMemory)
+  -- a name that no function has, in a file that has an image and whose sections are not broken
+  pub no_function : (i : Reading) (o : Writing) (c : Command) (f : Target) (bytes : List ℕ) (m : List Segment) (name : List ℕ) (s : Status)
+      → HoldsAt i.held f.path bytes → length bytes ≤ limit → image_of bytes ≡ Ok m → f.func ≡ Named name → function_named bytes name ≡ Err find.NoFunction
+      → (Rose i.faults i.faults_now → ⊥) → function_of c ≡ Some f → Answers s i o (Some c) → (s ≡ NoFunction) ⊎ (s ≡ NoMemory)
   -- a range with a place outside the profile, which is named
-  pub outside : (words : List (List ℕ)) (i : Reading) (o : Writing) (c : Command) (f : Target) (bytes : List ℕ) (m : List Segment) (p : Place) (s : Status)
-      → IsAccepted words i c f bytes m → NamedPlace m f.range p → (Rose i.faults i.faults_now → ⊥) → Answers s i o (command_of words)
+  pub outside : (words : List (List ℕ)) (i : Reading) (o : Writing) (c : Command) (f : Target) (bytes : List ℕ) (m : List Segment) (r : Range) (p : Place) (s : Status)
+      → IsAccepted words i c f bytes m r → NamedPlace m r p → (Rose i.faults i.faults_now → ⊥) → Answers s i o (command_of words)
       → (s ≡ Outside p) ⊎ (s ≡ NoMemory)
   -- the header that is asked for: all of it, or a front of it where the count of faults of the output rises
   pub prelude : (i : Reading) (o : Writing) (s : Status) → Answers s i o (command_of (codes "prelude" ∷ []))

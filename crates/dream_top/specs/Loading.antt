@@ -5,9 +5,11 @@ use Rattle.dream_outside.specs.Causes.{Rose, counted}
 use Rattle.dream_top.specs.declared.load.LoadFault.{LoadFault}
 use Rattle.dream_top.specs.declared.load.LoadFault.TheVariants.{Fault, TooLarge, Memory}
 use Rattle.dream_top.specs.declared.status.Status.{Status}
-use Rattle.dream_top.specs.declared.status.Status.TheVariants.{ReadFault, FileTooLarge, NoMemory, NotElf, Outside}
+use Rattle.dream_top.specs.declared.status.Status.TheVariants.{ReadFault, FileTooLarge, NoMemory, NotElf, NoFunction, Outside}
 use Rattle.elf_image.specs.declared.image.ImageFault.{ImageFault}
 use Rattle.elf_image.specs.declared.image.ImageFault.TheVariants as image
+use Rattle.elf_symbols.specs.declared.find.FindFault.{FindFault}
+use Rattle.elf_symbols.specs.declared.find.FindFault.TheVariants as find
 use Rattle.flow_graph.specs.declared.place.FlowFault.{FlowFault}
 use Rattle.flow_graph.specs.declared.place.FlowFault.TheVariants as flow
 use Rattle.dream_top.specs.Answers.{limit, Reading, IsReadFault, IsTooLarge}
@@ -56,6 +58,10 @@ load_status Memory = NoMemory
 abbrev pub image_status : ImageFault → Status
 image_status (image.Elf fault) = NotElf fault
 image_status image.Memory = NoMemory
+
+abbrev pub find_status : FindFault → Status
+find_status (find.Elf fault) = NotElf fault
+find_status find.NoFunction = NoFunction
 
 abbrev pub flow_status : FlowFault → Status
 flow_status (flow.Outside place) = Outside place

@@ -3,6 +3,7 @@
 //! Promised is, for each status, what it says of them: the C means what the code means, or the refusal has its cause.
 #![tactic(auto)]
 
+mod finding;
 mod header;
 mod laws;
 mod load;

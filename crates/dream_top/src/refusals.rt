@@ -1,11 +1,12 @@
 //! The status of each fault on the way to a text.
 
 ghost use Rattle.std.specs.Prelude.{◌≡◌};
-ghost use Rattle.dream_top.specs.Loading.{load_status, image_status, flow_status};
+ghost use Rattle.dream_top.specs.Loading.{load_status, image_status, find_status, flow_status};
 
 use crate::load::LoadFault;
 use crate::status::Status;
 use elf_image::ImageFault;
+use elf_symbols::FindFault;
 use flow_graph::FlowFault;
 
 impl From<LoadFault> for Status {
@@ -27,6 +28,17 @@ impl From<ImageFault> for Status {
         match fault {
             ImageFault::Elf(fault) => Status::NotElf(fault),
             ImageFault::Memory => Status::NoMemory,
+        }
+    }
+}
+
+impl From<FindFault> for Status {
+    ghost from_gives = { λ fault status. status ≡ find_status fault };
+
+    fn from(fault: FindFault) -> Status {
+        match fault {
+            FindFault::Elf(fault) => Status::NotElf(fault),
+            FindFault::NoFunction => Status::NoFunction,
         }
     }
 }

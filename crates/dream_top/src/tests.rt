@@ -4,7 +4,7 @@ ghost use Rattle.std.specs.Prelude.{None};
 
 use crate::{Status, dream};
 use dream_outside::{Failed, Files, MemFile, MemFiles, MemSink};
-use elf_image::ElfFault;
+use elf_image::{ElfFault, Range};
 use flow_graph::{Cause, Place};
 use std::alloc::Global;
 use std::test::Fail;
@@ -12,30 +12,73 @@ use std::test::Fail;
 // `mov eax, 5` and `ret`.
 const MOVE: [u8; 6] = [0xb8, 5, 0, 0, 0, 0xc3];
 
+// Its text, where it stands at 0x08048100.
+const MOVE_TEXT: &str =
+    "#include \"dream386.h\"\n\nvoid f_08048100(void)\n{\n  eax = 0x5u;\n  esp = (esp + 0x4u);\n  return;\n}\n";
+
 // A header, one program header at place 52, zeros up to place 0x100 and the code there. All of the file is loaded at the
-// address `base`; where `twice` holds, it is so by two equal headers.
-fn elf_at(alloc: Global, base: u32, code: &[u8], twice: bool) -> Result<Vec<u8>, Fail> {
+// address `base`; where `twice` holds, it is so by two equal headers. So many section headers are said to stand at the
+// place `table`.
+fn elf_of(
+    alloc: Global,
+    base: u32,
+    code: &[u8],
+    twice: bool,
+    table: u32,
+    sections: u32,
+) -> Result<Vec<u8>, Fail> {
     let size = u32::try_from(0x100 + code.len())?;
     let count = if twice { 2 } else { 1 };
-    let header = [0x0003_0002, 1, 0x0804_8100, 52, 0, 0, 0x0020_0034, count, 0];
+    let entries = if sections == 0 { 0 } else { 0x0028_0000 };
+    let header = [
+        0x0003_0002,
+        1,
+        0x0804_8100,
+        52,
+        table,
+        0,
+        0x0020_0034,
+        entries + count,
+        sections,
+    ];
     let segment = [1, 0, base, base, size, size, 5, 4096];
     let mut bytes = Vec::from_slice(alloc, b"\x7fELF\x01\x01\x01\0\0\0\0\0\0\0\0\0")?;
-    for word in header {
-        bytes.extend_from_slice(&u32::to_le_bytes(word))?;
-    }
+    push_words(&mut bytes, &header)?;
     for _ in 0..count {
-        for word in segment {
-            bytes.extend_from_slice(&u32::to_le_bytes(word))?;
-        }
+        push_words(&mut bytes, &segment)?;
     }
     bytes.resize(0x100, 0)?;
     bytes.extend_from_slice(code)?;
     Ok(bytes)
 }
 
+// Adds words to a file.
+fn push_words(bytes: &mut Vec<u8>, words: &[u32]) -> Result<(), Fail> {
+    for word in words {
+        bytes.extend_from_slice(&u32::to_le_bytes(*word))?;
+    }
+    Ok(())
+}
+
+// Such a file without section headers.
+fn elf_at(alloc: Global, base: u32, code: &[u8], twice: bool) -> Result<Vec<u8>, Fail> {
+    elf_of(alloc, base, code, twice, 0, 0)
+}
+
 // The code at 0x08048100.
 fn elf(alloc: Global, code: &[u8]) -> Result<Vec<u8>, Fail> {
     elf_at(alloc, 0x0804_8000, code, false)
+}
+
+// The move at 0x08048100, under the name `main`: two symbols at place 262, their names at 294 and three section headers at 300.
+fn elf_with_main(alloc: Global) -> Result<Vec<u8>, Fail> {
+    let mut bytes = elf_of(alloc, 0x0804_8000, &MOVE, false, 300, 3)?;
+    push_words(&mut bytes, &[0, 0, 0, 0, 1, 0x0804_8100, 6, 0x0001_0012])?;
+    bytes.extend_from_slice(b"\0main\0")?;
+    push_words(&mut bytes, &[0; 10])?;
+    push_words(&mut bytes, &[0, 2, 0, 0, 262, 32, 2, 0, 0, 16])?;
+    push_words(&mut bytes, &[0, 3, 0, 0, 294, 6, 0, 0, 0, 0])?;
+    Ok(bytes)
 }
 
 // What a call of the program answered and wrote.
@@ -80,13 +123,82 @@ fn decompile(alloc: Global, file: Vec<u8>, func: &str) -> Result<Ran, Fail> {
 fn answers_with_ample_memory(rt: HostRuntime) -> Result<(), Fail> {
     let alloc = rt.alloc();
     let ran = decompile(alloc, elf(alloc, &MOVE)?, "0x08048100+6")?;
-    let text =
-        "#include \"dream386.h\"\n\nvoid f_08048100(void)\n{\n  eax = 0x5u;\n  esp = (esp + 0x4u);\n  return;\n}\n";
     assert!(rt; ran.status == Status::Done);
     assert_eq!(rt; ran.status.code(), 0);
     assert_eq!(rt; ran.out.bytes().len(), 95);
-    assert_eq!(rt; ran.out.bytes(), text.as_bytes());
+    assert_eq!(rt; ran.out.bytes(), MOVE_TEXT.as_bytes());
     assert_eq!(rt; ran.notes.bytes().len(), 0);
+    Ok(())
+}
+
+#[test]
+fn finds_functions_by_name(rt: HostRuntime) -> Result<(), Fail> {
+    let alloc = rt.alloc();
+    let ran = decompile(alloc, elf_with_main(alloc)?, "main")?;
+    assert!(rt; ran.status == Status::Done);
+    assert_eq!(rt; ran.out.bytes(), MOVE_TEXT.as_bytes());
+    assert_eq!(rt; ran.notes.bytes().len(), 0);
+    let listed = elf_symbols::functions(alloc, &elf_with_main(alloc)?)
+        .map_err(|_| "no list")?
+        .list;
+    assert_eq!(rt; listed.len(), 1);
+    let main = listed.first().ok_or("no function")?;
+    assert_eq!(rt; main.name.as_slice(), b"main".as_slice());
+    assert!(rt; main.range == Range::new(0x0804_8100, 6));
+    Ok(())
+}
+
+// Names that no function has. What is no address form is a name.
+#[test]
+fn misses_functions(rt: HostRuntime) -> Result<(), Fail> {
+    let alloc = rt.alloc();
+    let names = [
+        "main",
+        "08048100+6",
+        "0x08048100",
+        "0x08048100+",
+        "0x+6",
+        "0x008048100+6",
+        "0x0804810g+6",
+    ];
+    for name in names {
+        let ran = decompile(alloc, elf(alloc, &MOVE)?, name)?;
+        assert!(rt; ran.status == Status::NoFunction, "{name}");
+        assert_eq!(rt; ran.notes.bytes(), b"dream: no such function\n".as_slice());
+        assert_eq!(rt; ran.out.bytes().len(), 0, "{name}");
+    }
+    let ran = decompile(alloc, elf_with_main(alloc)?, "mai")?;
+    assert!(rt; ran.status == Status::NoFunction);
+    Ok(())
+}
+
+// One byte of the file with a name is another: of the size of section headers, of the place of their table, of the number
+// of the names' section, and of the names. By its address the function is found all the same.
+#[test]
+fn refuses_sections(rt: HostRuntime) -> Result<(), Fail> {
+    let alloc = rt.alloc();
+    let cases = [
+        (46, 39, Status::NotElf(ElfFault { kind: 12, at: 46 })),
+        (35, 0xff, Status::NotElf(ElfFault { kind: 12, at: 32 })),
+        (364, 3, Status::NotElf(ElfFault { kind: 12, at: 340 })),
+        (299, 0x41, Status::NoFunction),
+    ];
+    for (place, byte, status) in cases {
+        let mut file = elf_with_main(alloc)?;
+        *file.get_mut(place).ok_or("no such byte")? = byte;
+        let ran = decompile(alloc, file.clone()?, "0x08048100+6")?;
+        assert!(rt; ran.status == Status::Done, "{place}");
+        let ran = decompile(alloc, file, "main")?;
+        assert!(rt; ran.status == status, "{place}");
+        assert_eq!(rt; ran.out.bytes().len(), 0, "{place}");
+    }
+    let mut file = elf_with_main(alloc)?;
+    *file.get_mut(46).ok_or("no such byte")? = 39;
+    let ran = decompile(alloc, file, "main")?;
+    assert_eq!(rt;
+        ran.notes.bytes(),
+        b"dream: not an accepted ELF file: SectionOutside at 46\n".as_slice()
+    );
     Ok(())
 }
 
@@ -468,21 +580,17 @@ fn tells_how_words_are_used(rt: HostRuntime) -> Result<(), Fail> {
     let alloc = rt.alloc();
     let note =
         "dream: usage: decompile PATH FUNC, plain PATH FUNC, run PATH FUNC N WORDS, tidy PATH, drill N, prelude\n";
-    let cases: [&[&str]; 20] = [
+    let cases: [&[&str]; 16] = [
         &[],
         &["--help"],
         &["decompile"],
         &["decompile", "a"],
         &["decompile", "", "0x08048100+6"],
         &["decompile", "a", ""],
-        &["decompile", "a", "08048100+6"],
-        &["decompile", "a", "0x08048100"],
-        &["decompile", "a", "0x08048100+"],
-        &["decompile", "a", "0x+6"],
-        &["decompile", "a", "0x008048100+6"],
-        &["decompile", "a", "0x0804810g+6"],
+        &["plain", "a", ""],
+        &["decompile", "", "main"],
         &["decompile", "a", "0x08048100+6", ""],
-        &["plain", "a", "main"],
+        &["run", "a", "main"],
         &["run", "a", "0x08048100+6"],
         &["run", "a", "0x08048100+6", "1000001"],
         &["run", "a", "0x08048100+6", "0x10"],

@@ -1,17 +1,16 @@
 //! The program's one call.
 
-ghost use Rattle.std.specs.Prelude.{◌≡◌, Ok, map, string_bytes, IfOk, IfErr};
-ghost use Rattle.elf_image.specs.Image.{image_of};
-ghost use Rattle.dream_top.specs.CommandLine.{target, command_of};
+ghost use Rattle.std.specs.Prelude.{map, string_bytes, IfOk, IfErr};
+ghost use Rattle.dream_top.specs.CommandLine.{target_said, command_of};
 ghost use Rattle.dream_top.specs.Notes.{note_of};
-ghost use Rattle.dream_top.specs.Answers.{reading_of, writing_of, Loads, Makes, IsUnread, Refuses, AnswersFunction, Writes, Answers, Tells};
+ghost use Rattle.dream_top.specs.Answers.{reading_of, writing_of, Makes, Refuses, AnswersFunction, Writes, Answers, Tells};
 ghost use Rattle.dream_engine.specs.Agreement.{IsDecompiled};
 ghost use Rattle.dream_top.specs.Header.{header_text};
 ghost use Rattle.dream_top.specs.Runs.{IsRunText};
 ghost use Rattle.run_lines.specs.StartWords.{given_by};
 
+use crate::finding::find;
 use crate::header::HEADER;
-use crate::load::load;
 use crate::notes::tell;
 use crate::runs::run_text;
 use crate::status::Status;
@@ -19,39 +18,24 @@ use crate::words::{Command, Target, command_in};
 use crate::writing::put_all;
 use dream_engine::{Form, decompile_one};
 use dream_outside::{Files, Sink};
-use elf_image::{Image, Range};
 use std::alloc::Global;
 
-// The image of the file at a path.
-fn read_image<F: Files>(alloc: Global, files: &mut F, path: &str) -> Result<Image, Status>
-    ensures ok { IfOk result (λ m. Loads
-        (reading_of (F.held files.old) (F.faults files.old) (F.faults files.new) (F.got files.old) (F.got files.new))
-        path.now (λ bytes. image_of bytes ≡ Ok m)) }
-    ensures err { IfErr result (λ s. IsUnread s
-        (reading_of (F.held files.old) (F.faults files.old) (F.faults files.new) (F.got files.old) (F.got files.new))
-        path.now) }
-{
-    let bytes = load(alloc, files, path)?;
-    Ok(Image::read(alloc, &bytes)?)
-}
-
-// The text of the function at a range of the file at a path, in a form.
+// The text of a function, in a form.
 fn decompile<F: Files>(
     alloc: Global,
     files: &mut F,
     form: Form,
-    path: &str,
-    range: Range,
+    target: Target<'_>,
 ) -> Result<Vec<u8>, Status>
     ensures ok { IfOk result (λ text. Makes (IsDecompiled form)
         (reading_of (F.held files.old) (F.faults files.old) (F.faults files.new) (F.got files.old) (F.got files.new))
-        (target path.now range) text.items) }
+        (target_said target.entry) text.items) }
     ensures err { IfErr result (λ s. Refuses s
         (reading_of (F.held files.old) (F.faults files.old) (F.faults files.new) (F.got files.old) (F.got files.new))
-        (target path.now range)) }
+        (target_said target.entry)) }
 {
-    let image = read_image(alloc, files, path)?;
-    Ok(decompile_one(alloc, &image, &range, form)?)
+    let found = find(alloc, files, target)?;
+    Ok(decompile_one(alloc, &found.image, &found.range, form)?)
 }
 
 // Writes that text.
@@ -59,16 +43,15 @@ fn write_function<F: Files, K: Sink>(
     alloc: Global,
     files: &mut F,
     form: Form,
-    path: &str,
-    range: Range,
+    target: Target<'_>,
     out: &mut K,
 ) -> Status
     ensures { AnswersFunction (IsDecompiled form) result
         (reading_of (F.held files.old) (F.faults files.old) (F.faults files.new) (F.got files.old) (F.got files.new))
         (writing_of (K.taken out.old) (K.taken out.new) (K.faults out.old) (K.faults out.new))
-        (target path.now range) }
+        (target_said target.entry) }
 {
-    match decompile(alloc, files, form, path, range) {
+    match decompile(alloc, files, form, target) {
         Err(status) => status,
         Ok(text) => match put_all(out, &text) {
             Ok(()) => Status::Done,
@@ -77,32 +60,30 @@ fn write_function<F: Files, K: Sink>(
     }
 }
 
-// The two lines of the function at a range of the file at a path.
+// The two lines of a function.
 fn run<F: Files>(
     alloc: Global,
     files: &mut F,
-    path: &str,
-    range: Range,
+    target: Target<'_>,
     steps: u32,
     words: &[String],
 ) -> Result<Vec<u8>, Status>
     ensures ok { IfOk result (λ text. Makes (IsRunText steps (given_by (map string_bytes words.now)))
         (reading_of (F.held files.old) (F.faults files.old) (F.faults files.new) (F.got files.old) (F.got files.new))
-        (target path.now range) text.items) }
+        (target_said target.entry) text.items) }
     ensures err { IfErr result (λ s. Refuses s
         (reading_of (F.held files.old) (F.faults files.old) (F.faults files.new) (F.got files.old) (F.got files.new))
-        (target path.now range)) }
+        (target_said target.entry)) }
 {
-    let image = read_image(alloc, files, path)?;
-    Ok(run_text(alloc, &image, &range, steps, words)?)
+    let found = find(alloc, files, target)?;
+    Ok(run_text(alloc, &found.image, &found.range, steps, words)?)
 }
 
 // Writes these lines.
 fn write_run<F: Files, K: Sink>(
     alloc: Global,
     files: &mut F,
-    path: &str,
-    range: Range,
+    target: Target<'_>,
     steps: u32,
     words: &[String],
     out: &mut K,
@@ -110,9 +91,9 @@ fn write_run<F: Files, K: Sink>(
     ensures { AnswersFunction (IsRunText steps (given_by (map string_bytes words.now))) result
         (reading_of (F.held files.old) (F.faults files.old) (F.faults files.new) (F.got files.old) (F.got files.new))
         (writing_of (K.taken out.old) (K.taken out.new) (K.faults out.old) (K.faults out.new))
-        (target path.now range) }
+        (target_said target.entry) }
 {
-    match run(alloc, files, path, range, steps, words) {
+    match run(alloc, files, target, steps, words) {
         Err(status) => status,
         Ok(text) => match put_all(out, &text) {
             Ok(()) => Status::Done,
@@ -142,11 +123,9 @@ fn work<F: Files, K: Sink>(alloc: Global, words: &[String], files: &mut F, out: 
 {
     match command_in(words) {
         None => Status::Usage,
-        Some(Command::Decompile(form, Target { path, range })) => {
-            write_function(alloc, files, form, path, range, out)
-        }
-        Some(Command::Run(Target { path, range }, steps, words)) => {
-            write_run(alloc, files, path, range, steps, words, out)
+        Some(Command::Decompile(form, target)) => write_function(alloc, files, form, target, out),
+        Some(Command::Run(target, steps, words)) => {
+            write_run(alloc, files, target, steps, words, out)
         }
         Some(Command::Prelude) => write_header(out),
     }

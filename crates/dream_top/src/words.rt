@@ -1,17 +1,26 @@
 //! The words of the command line.
 
 ghost use Rattle.std.specs.Prelude.{◌≡◌, ◌<◌, ℕ, map, string_bytes, IfSome, MatchOption};
-ghost use Rattle.dream_top.specs.CommandLine.{hex_digit as hex_digit_of, hex_number as hex_number_of, sum_form as sum_form_of, address_form as address_form_of, form_named as form_named_of, function_at as function_at_of, function_asked as function_asked_of, run_asked as run_asked_of, target as target_is, is_prelude as asks_for_header, command_of, asked_by};
+ghost use Rattle.dream_top.specs.CommandLine.{hex_digit as hex_digit_of, hex_number as hex_number_of, sum_form as sum_form_of, address_form as address_form_of, func_of as func_of_word, func_said, target_said, form_named as form_named_of, function_at as function_at_of, function_asked as function_asked_of, run_asked as run_asked_of, is_prelude as asks_for_header, command_of, asked_by};
 
 use dream_engine::Form;
 use elf_image::Range;
 use run_lines::{are_start_words, count};
 
-/// A function: the range of the file at a path.
+/// Which function of a file is meant.
+#[derive(Clone, Copy)]
+pub enum Func<'a> {
+    /// The one at these addresses.
+    At(Range),
+    /// The first one of this name among the symbols.
+    Named(&'a str),
+}
+
+/// A function of the file at a path.
 #[derive(Clone, Copy)]
 pub struct Target<'a> {
     pub path: &'a str,
-    pub range: Range,
+    pub func: Func<'a>,
 }
 
 /// What the words ask for.
@@ -80,15 +89,27 @@ fn form_named(name: &str) -> Option<Form>
     }
 }
 
-// The function of a PATH and a FUNC.
-fn function_at<'a>(path: &'a str, func: &str) -> Option<Target<'a>>
-    ensures { MatchOption result (function_at_of path.now (address_form_of func.now) ≡ None) (λ t. function_at_of path.now (address_form_of func.now) ≡ Some (target_is t.path.now t.range)) }
+// What a FUNC says: the range of an address form, or else a name.
+fn func_of(func: &str) -> Func<'_>
+    ensures { func_said result ≡ func_of_word func.now }
 {
-    if path.is_empty() {
+    match address_form(func) {
+        Some(range) => Func::At(range),
+        None => Func::Named(func),
+    }
+}
+
+// The function of a PATH and a FUNC.
+fn function_at<'a>(path: &'a str, func: &'a str) -> Option<Target<'a>>
+    ensures { MatchOption result (function_at_of path.now func.now ≡ None) (λ t. function_at_of path.now func.now ≡ Some (target_said t)) }
+{
+    if path.is_empty() || func.is_empty() {
         return None;
     }
-    let range = address_form(func)?;
-    Some(Target { path, range })
+    Some(Target {
+        path,
+        func: func_of(func),
+    })
 }
 
 // The function that the words ask for, if they do.
