@@ -15,11 +15,12 @@ use Rattle.flow_graph.proofs.OnePlaces.{one_place}
 use Rattle.flow_graph.specs.Place.{NamedPlace, NamedAfter, IsLeastPlace, HasNoPlace}
 use Rattle.dream_engine.specs.Agreement.{IsDecompiled}
 use Rattle.run_lines.specs.StartWords.{given_by}
+use Rattle.drill_lines.specs.Lines.{IsDrillLine}
 use Rattle.dream_top.specs.Runs.{IsRunText}
 use Rattle.dream_top.specs.declared.status.Status.{Status}
 use Rattle.dream_top.specs.declared.status.Status.TheVariants.{Done, Usage, ReadFault, WriteFault, NoMemory, NotElf, NoFunction, Outside, FileTooLarge, NotProfile}
-use Rattle.dream_top.specs.CommandLine.{Func, Named, Target, Command, Decompile, Run, Prelude, function_of}
-use Rattle.dream_top.specs.Answers.{limit, Reading, Writing, Holds, IsReadFault, IsTooLarge, Loads, range_in, Finds, FindsNone, IsNotElf, IsNoFunction, LoadsFunction, StopsIn, Made, Makes, Answers, AnswersFunction, Writes}
+use Rattle.dream_top.specs.CommandLine.{Func, Named, Target, Command, Decompile, Run, Drill, Prelude, function_of}
+use Rattle.dream_top.specs.Answers.{limit, Reading, Writing, Holds, IsReadFault, IsTooLarge, Loads, range_in, Finds, FindsNone, IsNotElf, IsNoFunction, LoadsFunction, StopsIn, Made, Makes, Answers, AnswersFunction, Writes, WritesMade}
 use Rattle.dream_top.specs.Loading.{find_status}
 use Rattle.dream_top.specs.Header.{header_text}
 use Rattle.dream_top.specs.Laws.{HasNoFault, NoRefusalWithoutCause, EachCauseHasItsAnswer}
@@ -109,6 +110,7 @@ by_command : (C : Type 0) (c : Command) (s : Status) (i : Reading) (o : Writing)
 by_command C (Decompile form g) s i o f e a k = k (IsDecompiled form) (λ m r text d. d.is_function.no_place) (subst (AnswersFunction (IsDecompiled form) s i o) (same_some g f e) a)
 by_command C (Run g n words) s i o f e a k =
     k (IsRunText n (given_by words)) (λ m r text d. d.is_function.no_place) (subst (AnswersFunction (IsRunText n (given_by words)) s i o) (same_some g f e) a)
+by_command C (Drill n) s i o f e a k = absurd cc
 by_command C Prelude s i o f e a k = absurd cc
 
 -- ---- places
@@ -258,6 +260,13 @@ written Done o text w = inl (refl, w)
 written WriteFault o text w = inr (refl, w)
 written s o text w = absurd w
 
+-- a text that is made first is written, or a front of it, or memory runs out
+made_written : (P : List ℕ → Type 0) (s : Status) (o : Writing) → WritesMade P s o → (s ≡ Done) ⊎ ((s ≡ NoMemory) ⊎ ((s ≡ WriteFault) × Rose o.faults o.faults_now))
+made_written P Done o w = inl refl
+made_written P NoMemory o w = inr (inl refl)
+made_written P WriteFault o w = inr (inr (refl, w.2.rose))
+made_written P s o w = absurd w
+
 pub each_cause_has_its_answer : EachCauseHasItsAnswer
 each_cause_has_its_answer = record {
   usage = λ i o s a. a.0;
@@ -275,6 +284,7 @@ each_cause_has_its_answer = record {
   outside = λ words i o c f bytes m r p s accepted named quiet a.
       by_command ((s ≡ Outside p) ⊎ (s ≡ NoMemory)) c s i o f accepted.function (subst (λ asked. Answers s i o asked) accepted.command a)
       (λ P none b. outside_or_memory P none i o f bytes m r p s accepted.held accepted.small accepted.found named quiet b);
+  drill = λ words i o n s asked a. made_written (IsDrillLine n) s o (subst (λ c. Answers s i o c) asked a).writes;
   prelude = λ i o s a. written s o header_text a.writes;
   prelude_done = λ i o s quiet a. elim (written s o header_text a.writes) [ inl done ↦ done.0 | inr stopped ↦ absurd (quiet stopped.1.rose) ];
 }

@@ -14,9 +14,10 @@ use Rattle.elf_image.specs.declared.range.Range.{Range}
 use Rattle.dream_engine.specs.Agreement.{IsDecompiled}
 use Rattle.dream_top.specs.declared.status.Status.{Status}
 use Rattle.dream_top.specs.declared.status.Status.TheVariants.{Done, Usage, ReadFault, WriteFault, NoMemory, NotElf, NoFunction, Outside, FileTooLarge, NotProfile}
-use Rattle.dream_top.specs.CommandLine.{Func, At, Named, Target, Command, Decompile, Run, Prelude}
+use Rattle.dream_top.specs.CommandLine.{Func, At, Named, Target, Command, Decompile, Run, Drill, Prelude}
 use Rattle.dream_top.specs.Runs.{IsRunText}
 use Rattle.run_lines.specs.StartWords.{given_by}
+use Rattle.drill_lines.specs.Lines.{IsDrillLine}
 use Rattle.dream_top.specs.Header.{header_text}
 
 -- the most bytes that a file may have
@@ -157,6 +158,20 @@ Writes Done o text = Appends o.taken o.taken_now text
 Writes WriteFault o text = StopsIn o text
 Writes s o text = ⊥
 
+-- What a status says of a text that is made first: the output grows by the whole of it at Done, by a front of it at WriteFault,
+-- and not at all where memory runs out. No other status comes.
+abbrev pub WritesMade : (List ℕ → Type 0) → Status → Writing → Type 0
+WritesMade P Done o = (text : List ℕ) × P text × Appends o.taken o.taken_now text
+WritesMade P WriteFault o = (text : List ℕ) × P text × StopsIn o text
+WritesMade P NoMemory o = Keeps o.taken o.taken_now
+WritesMade P s o = ⊥
+
+-- The line of a drill is written, and no call on the files changed their counts.
+pub record AnswersDrill (n : ℕ) (s : Status) (i : Reading) (o : Writing) : Type 0 where
+  pub writes : WritesMade (IsDrillLine n) s o
+  pub no_fault : i.faults_now ≡ i.faults
+  pub not_read : i.got_now ≡ i.got
+
 -- The header is written, and no call on the files changed their counts.
 pub record AnswersPrelude (s : Status) (i : Reading) (o : Writing) : Type 0 where
   pub writes : Writes s o header_text
@@ -168,4 +183,5 @@ abbrev pub Answers : Status → Reading → Writing → Option Command → Type 
 Answers s i o None = (s ≡ Usage) × Keeps o.taken o.taken_now
 Answers s i o (Some (Decompile form f)) = AnswersFunction (IsDecompiled form) s i o f
 Answers s i o (Some (Run f n words)) = AnswersFunction (IsRunText n (given_by words)) s i o f
+Answers s i o (Some (Drill n)) = AnswersDrill n s i o
 Answers s i o (Some Prelude) = AnswersPrelude s i o

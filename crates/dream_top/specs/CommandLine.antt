@@ -1,7 +1,7 @@
 -- Which lists of words are which command. The words are those after the program's name.
 use Rattle.std.specs.Prelude.{ℕ, ◌+◌, ◌-◌, ◌*◌, ◌&&◌, ◌==◌, nat_le, nat_eq, Bool, false, List, [], ◌∷◌, length, drop, Option, Some, None, if◌then◌else◌, codes, map, string_bytes}
 use Rattle.std.specs.List.{starts_with, before_first, after_first}
-use Rattle.std.specs.Option.{option_and_then}
+use Rattle.std.specs.Option.{option_and_then, option_map}
 use Rattle.std.specs.Str.{bytes_eq}
 use Rattle.elf_image.specs.declared.range.Range.{Range}
 use Rattle.elf_image.specs.Range.{range}
@@ -67,17 +67,19 @@ pub record Target : Type 0 where
 abbrev pub target : List ℕ → Func → Target
 target path func = record { path = path; func = func }
 
--- what the words ask for: the C of a function in a form, its runs of so many steps from a start that words give, or the
--- header that each text includes
+-- what the words ask for: the C of a function in a form, its runs of so many steps from a start that words give, the line of
+-- a drill of so many functions, or the header that each text includes
 pub data Command : Type 0 where
   Decompile : Form → Target → Command
   Run : Target → ℕ → List (List ℕ) → Command
+  Drill : ℕ → Command
   Prelude : Command
 
 -- the function that is asked for, if one is
 abbrev pub function_of : Command → Option Target
 function_of (Decompile form f) = Some f
 function_of (Run f n words) = Some f
+function_of (Drill n) = None
 function_of Prelude = None
 
 -- what the program's FUNC says
@@ -93,6 +95,7 @@ target_said t = target t.path.now (func_said t.func)
 abbrev pub asked_by : words.Command → Command
 asked_by (variant.Decompile form f) = Decompile form (target_said f)
 asked_by (variant.Run f n words) = Run (target_said f) n (map string_bytes words.now)
+asked_by (variant.Drill n) = Drill n
 asked_by variant.Prelude = Prelude
 
 -- `decompile` asks for the structured form, and `plain` for the plain one.
@@ -128,6 +131,11 @@ run_asked (name ∷ path ∷ func ∷ n ∷ words) =
     if bytes_eq name (codes "run") && are_start_words words then asks_run (function_at path func) (count_of 0 1000000 n) words else None
 run_asked _ = None
 
+-- `drill N`: N is 1 to 4,000.
+abbrev pub drill_asked : List (List ℕ) → Option Command
+drill_asked (name ∷ n ∷ []) = if bytes_eq name (codes "drill") then option_map (λ count. Drill count) (count_of 1 4000 n) else None
+drill_asked _ = None
+
 -- a command, or else another
 abbrev pub or_else : Option Command → Option Command → Option Command
 or_else None c = c
@@ -140,4 +148,4 @@ is_prelude _ = false
 
 -- One of these; every other list of words is no command.
 abbrev pub command_of : List (List ℕ) → Option Command
-command_of words = if is_prelude words then Some Prelude else or_else (function_asked words) (run_asked words)
+command_of words = if is_prelude words then Some Prelude else or_else (function_asked words) (or_else (run_asked words) (drill_asked words))

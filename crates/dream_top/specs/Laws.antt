@@ -12,7 +12,7 @@ use Rattle.flow_graph.specs.declared.place.Place.{Place}
 use Rattle.flow_graph.specs.Place.{NamedPlace, HasNoPlace}
 use Rattle.dream_top.specs.declared.status.Status.{Status}
 use Rattle.dream_top.specs.declared.status.Status.TheVariants.{Done, Usage, ReadFault, WriteFault, NoMemory, NotElf, NoFunction, Outside, FileTooLarge}
-use Rattle.dream_top.specs.CommandLine.{Named, Target, Command, function_of, command_of}
+use Rattle.dream_top.specs.CommandLine.{Named, Target, Command, Drill, function_of, command_of}
 use Rattle.dream_top.specs.Answers.{limit, Reading, Writing, Finds, StopsIn, Answers}
 use Rattle.dream_top.specs.Header.{header_text}
 
@@ -64,6 +64,9 @@ pub record EachCauseHasItsAnswer : Type 0 where
   pub outside : (words : List (List ℕ)) (i : Reading) (o : Writing) (c : Command) (f : Target) (bytes : List ℕ) (m : List Segment) (r : Range) (p : Place) (s : Status)
       → IsAccepted words i c f bytes m r → NamedPlace m r p → (Rose i.faults i.faults_now → ⊥) → Answers s i o (command_of words)
       → (s ≡ Outside p) ⊎ (s ≡ NoMemory)
+  -- a drill that is asked for: done, unless memory runs out or the count of faults of the output rises
+  pub drill : (words : List (List ℕ)) (i : Reading) (o : Writing) (n : ℕ) (s : Status) → command_of words ≡ Some (Drill n) → Answers s i o (command_of words)
+      → (s ≡ Done) ⊎ ((s ≡ NoMemory) ⊎ ((s ≡ WriteFault) × Rose o.faults o.faults_now))
   -- the header that is asked for: all of it, or a front of it where the count of faults of the output rises
   pub prelude : (i : Reading) (o : Writing) (s : Status) → Answers s i o (command_of (codes "prelude" ∷ []))
       → ((s ≡ Done) × Appends o.taken o.taken_now header_text) ⊎ ((s ≡ WriteFault) × StopsIn o header_text)

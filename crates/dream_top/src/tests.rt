@@ -580,7 +580,7 @@ fn tells_how_words_are_used(rt: HostRuntime) -> Result<(), Fail> {
     let alloc = rt.alloc();
     let note =
         "dream: usage: decompile PATH FUNC, plain PATH FUNC, run PATH FUNC N WORDS, tidy PATH, drill N, prelude\n";
-    let cases: [&[&str]; 16] = [
+    let cases: [&[&str]; 20] = [
         &[],
         &["--help"],
         &["decompile"],
@@ -595,7 +595,11 @@ fn tells_how_words_are_used(rt: HostRuntime) -> Result<(), Fail> {
         &["run", "a", "0x08048100+6", "1000001"],
         &["run", "a", "0x08048100+6", "0x10"],
         &["run", "a", "0x08048100+6", "10", "ax=1"],
+        &["drill"],
         &["drill", "0"],
+        &["drill", "4001"],
+        &["drill", "0x10"],
+        &["drill", "8", "8"],
         &["prelude", "x"],
     ];
     for words in cases {
@@ -605,6 +609,18 @@ fn tells_how_words_are_used(rt: HostRuntime) -> Result<(), Fail> {
         assert_eq!(rt; ran.notes.bytes(), note.as_bytes(), "{words:?}");
         assert_eq!(rt; ran.out.bytes().len(), 0, "{words:?}");
     }
+    Ok(())
+}
+
+#[test]
+fn tells_of_drills(rt: HostRuntime) -> Result<(), Fail> {
+    let alloc = rt.alloc();
+    let mut files = files(alloc, elf(alloc, &MOVE)?, Vec::new(alloc))?;
+    let ran = call(alloc, &mut files, &["drill", "500"], sink(alloc)?)?;
+    assert!(rt; ran.status == Status::Done);
+    assert!(rt; ran.out.bytes().starts_with(b"functions=500 bytes=10060 "));
+    assert!(rt; ran.out.bytes().ends_with(b"\n"));
+    assert_eq!(rt; ran.notes.bytes().len(), 0);
     Ok(())
 }
 

@@ -1,13 +1,14 @@
 //! The program's one call.
 
-ghost use Rattle.std.specs.Prelude.{map, string_bytes, IfOk, IfErr};
+ghost use Rattle.std.specs.Prelude.{◌≤◌, map, string_bytes, IfOk, IfErr};
 ghost use Rattle.dream_top.specs.CommandLine.{target_said, command_of};
 ghost use Rattle.dream_top.specs.Notes.{note_of};
-ghost use Rattle.dream_top.specs.Answers.{reading_of, writing_of, Makes, Refuses, AnswersFunction, Writes, Answers, Tells};
+ghost use Rattle.dream_top.specs.Answers.{reading_of, writing_of, Makes, Refuses, AnswersFunction, Writes, WritesMade, Answers, Tells};
 ghost use Rattle.dream_engine.specs.Agreement.{IsDecompiled};
 ghost use Rattle.dream_top.specs.Header.{header_text};
 ghost use Rattle.dream_top.specs.Runs.{IsRunText};
 ghost use Rattle.run_lines.specs.StartWords.{given_by};
+ghost use Rattle.drill_lines.specs.Lines.{IsDrillLine};
 
 use crate::finding::find;
 use crate::header::HEADER;
@@ -18,6 +19,7 @@ use crate::words::{Command, Target, command_in};
 use crate::writing::put_all;
 use dream_engine::{Form, decompile_one};
 use dream_outside::{Files, Sink};
+use drill_lines::drill_line;
 use std::alloc::Global;
 
 // The text of a function, in a form.
@@ -102,6 +104,22 @@ fn write_run<F: Files, K: Sink>(
     }
 }
 
+// Writes the line of a drill.
+fn write_drill<K: Sink>(alloc: Global, functions: u32, out: &mut K) -> Status
+    requires some { 1 ≤ functions }
+    requires few { functions ≤ 4000 }
+    ensures { WritesMade (IsDrillLine functions) result
+        (writing_of (K.taken out.old) (K.taken out.new) (K.faults out.old) (K.faults out.new)) }
+{
+    match drill_line(alloc, functions) {
+        Err(_) => Status::NoMemory,
+        Ok(text) => match put_all(out, &text) {
+            Ok(()) => Status::Done,
+            Err(_) => Status::WriteFault,
+        },
+    }
+}
+
 // Writes the header that each text includes.
 fn write_header<K: Sink>(out: &mut K) -> Status
     ensures { Writes result
@@ -127,6 +145,7 @@ fn work<F: Files, K: Sink>(alloc: Global, words: &[String], files: &mut F, out: 
         Some(Command::Run(target, steps, words)) => {
             write_run(alloc, files, target, steps, words, out)
         }
+        Some(Command::Drill(functions)) => write_drill(alloc, functions, out),
         Some(Command::Prelude) => write_header(out),
     }
 }

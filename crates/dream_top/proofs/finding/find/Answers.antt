@@ -1,4 +1,4 @@
-use Rattle.std.proofs.Common.{◌≡◌, ◌∙◌, Ok, Err, sym, subst}
+use Rattle.std.proofs.Common.{◌≡◌, Ok, Err, sym, subst}
 use Rattle.elf_image.specs.Image.{image_of, ImageFails}
 use Rattle.dream_top.specs.CommandLine.{func_said, target_said}
 use Rattle.dream_top.specs.Answers.{reading_of, range_in, Finds, Refuses}
