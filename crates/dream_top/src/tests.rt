@@ -484,6 +484,81 @@ fn runs_beside_the_machine(rt: HostRuntime) -> Result<(), Fail> {
     Ok(())
 }
 
+// A switch over eax by a table at 0x08049000, which is loaded with these flags: a branch of this opcode skips the jump and goes
+// to code that sets eax to 0, the table's words lead there (0x0804810c) or past it (0x0804810e).
+fn elf_with_table(alloc: Global, branch: u8, flags: u32, table: &[u32]) -> Result<Vec<u8>, Fail> {
+    let size = u32::try_from(4 * table.len())?;
+    let header = [
+        0x0003_0002,
+        1,
+        0x0804_8100,
+        52,
+        0,
+        0,
+        0x0020_0034,
+        2,
+        0,
+        1,
+        0,
+        0x0804_8000,
+        0x0804_8000,
+        0x10f,
+        0x10f,
+        5,
+        4096,
+        1,
+        0x1000,
+        0x0804_9000,
+        0x0804_9000,
+        size,
+        size,
+        flags,
+        4096,
+    ];
+    let mut bytes = Vec::from_slice(alloc, b"\x7fELF\x01\x01\x01\0\0\0\0\0\0\0\0\0")?;
+    push_words(&mut bytes, &header)?;
+    bytes.resize(0x100, 0)?;
+    bytes.extend_from_slice(&[0x83, 0xf8, 2, branch, 7, 0xff, 0x24, 0x85])?;
+    bytes.extend_from_slice(&[0, 0x90, 4, 8, 0x31, 0xc0, 0xc3])?;
+    bytes.resize(0x1000, 0)?;
+    push_words(&mut bytes, table)?;
+    Ok(bytes)
+}
+
+const THREE: [u32; 3] = [0x0804_810c, 0x0804_810e, 0x0804_810c];
+
+// Switches by tables: a branch, a word for the start, and what eax is returned.
+#[test]
+fn takes_tables(rt: HostRuntime) -> Result<(), Fail> {
+    let alloc = rt.alloc();
+    let cases: [(u8, &[u32], &str, &str); 4] = [
+        (0x77, &THREE, "eax=1", "eax=00000001"),
+        (0x77, &THREE, "eax=2", "eax=00000000"),
+        (0x77, &THREE, "eax=9", "eax=00000000"),
+        (0x73, &THREE[..2], "eax=2", "eax=00000000"),
+    ];
+    for (branch, table, word, eax) in cases {
+        let file = elf_with_table(alloc, branch, 4, table)?;
+        let ran = run(alloc, file, "0x08048100+f", word, "", "")?;
+        let line = format!(in alloc; "returned {eax} ecx=00000000 edx=00000000 ebx=00000000 esp=bfff0004 ebp=00000000 esi=00000000 edi=00000000 calls=0 changed=0\n")?;
+        let both = format!(in alloc; "{line}{line}")?;
+        assert!(rt; ran.status == Status::Done, "{word}");
+        assert_eq!(rt; ran.out.bytes(), both.as_bytes(), "{word}");
+    }
+    // A table that can be written, and one that is a word too short.
+    let refused: [(u32, &[u32]); 2] = [(6, &THREE), (4, &THREE[..2])];
+    let place = Place {
+        at: 0x0804_8105,
+        cause: Cause::IndirectJump,
+    };
+    for (flags, table) in refused {
+        let file = elf_with_table(alloc, 0x77, flags, table)?;
+        let ran = decompile(alloc, file, "0x08048100+f")?;
+        assert!(rt; ran.status == Status::Outside(place), "{flags}");
+    }
+    Ok(())
+}
+
 #[test]
 fn names_the_place_outside(rt: HostRuntime) -> Result<(), Fail> {
     let alloc = rt.alloc();
@@ -618,7 +693,7 @@ fn tells_of_drills(rt: HostRuntime) -> Result<(), Fail> {
     let mut files = files(alloc, elf(alloc, &MOVE)?, Vec::new(alloc))?;
     let ran = call(alloc, &mut files, &["drill", "500"], sink(alloc)?)?;
     assert!(rt; ran.status == Status::Done);
-    assert!(rt; ran.out.bytes().starts_with(b"functions=500 bytes=10060 "));
+    assert!(rt; ran.out.bytes().starts_with(b"functions=500 bytes=10060 accepted=500 components=188 "));
     assert!(rt; ran.out.bytes().ends_with(b"\n"));
     assert_eq!(rt; ran.notes.bytes().len(), 0);
     Ok(())
