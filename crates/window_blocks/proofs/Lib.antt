@@ -1,2 +1,5 @@
 pub mod Doing
 pub mod Straight
+pub mod PathRuns
+pub mod First
+pub mod Second
