@@ -24,7 +24,6 @@ use Rattle.run_parts.specs.World.{Names, World, regs_in, with_name}
 use Rattle.c_syntax.specs.declared.syntax.CCond.{CCond}
 use Rattle.c_syntax.specs.Value.{truth_of, word_of}
 use Rattle.micro_ir.specs.declared.flow.Block.{Block}
-use Rattle.micro_ir.specs.declared.flow.End.{End as BlockEnd}
 use Rattle.micro_ir.specs.declared.flow.End.TheVariants as end
 use Rattle.micro_ir.specs.declared.flow.Stmt.{Stmt}
 use Rattle.micro_ir.specs.declared.flow.Stmt.TheVariants as stmt
@@ -42,6 +41,7 @@ use Rattle.window_steps.specs.Knowledge.{is_above, value_in}
 use Rattle.window_steps.proofs.Operands.{with_regs}
 use Rattle.window_steps.proofs.Quiet.{does_next}
 use Rattle.window_blocks.specs.Locals.{sets}
+use Rattle.window_blocks.specs.Shapes.{first_end}
 use Rattle.window_blocks.proofs.Doing.{local_there, runs_rest, world_there}
 use Rattle.window_blocks.proofs.Straight.{IsStraight, straight_flow, straight_runs}
 
@@ -113,10 +113,6 @@ module _ (at next : ℕ) (size : Size) (x : Operand) (bound saved : ℕ) (b : Bl
 -- a Cond is the condition of a number, where that is known
 pub record Tells (c : ℕ) (t : CCond) : Type 0 where
   pub tells : (v : Names) (f : Flags) → FlagsStand f v → (p : Bool) × (truth_of t v ≡ Some p) × ((b : Bool) → condition_of c f ≡ Some b → p ≡ b)
-
--- the end of the first block: to the default where the index is too great, else on
-abbrev pub first_end : Bool → CCond → BlockEnd
-first_end above t = if above then end.Branch t 2 1 else end.Branch t 1 2
 
 branch_by : (above below : Bool) (t : CCond) (w : World) → truth_of t w.names ≡ Some (if above then not below else below) → end_leads (first_end above t) w ≡ To (if below then 1 else 2) w
 branch_by true true t w h = ap (λ o. branch o 2 1 w) h

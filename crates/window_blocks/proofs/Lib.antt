@@ -3,3 +3,4 @@ pub mod Straight
 pub mod PathRuns
 pub mod First
 pub mod Second
+pub mod Whole
