@@ -1,5 +1,5 @@
 -- Along the path of a window: each step lifts one instruction, until none is left.
-use Rattle.std.proofs.Common.{◌≡◌, ◌⊎◌, inl, inr, ℕ, zero, suc, ◌+◌, ◌%◌, ◌^◌, ◌<◌, ◌≤◌, Bool, true, false, List, [], ◌∷◌, ◌++◌, length, take, Option, Some, None, refl, sym, ap, ◌∙◌, subst, arith, append-nil, append-assoc, length-append}
+use Rattle.std.proofs.Common.{◌≡◌, ◌⊎◌, inl, inr, ℕ, zero, suc, ◌+◌, ◌-◌, ◌%◌, ◌^◌, ◌<◌, ◌≤◌, Bool, true, false, List, [], ◌∷◌, ◌++◌, length, take, Option, Some, None, refl, sym, ap, ◌∙◌, subst, arith, append-nil, append_assoc, length-append}
 use Rattle.elf_image.specs.declared.image.Segment.{Segment}
 use Rattle.elf_image.specs.declared.range.Range.{Range}
 use Rattle.elf_image.specs.Range.{bytes_to_end}
@@ -12,11 +12,21 @@ use Rattle.micro_ir.specs.declared.flow.Stmt.{Stmt}
 use Rattle.lift_parts.specs.Lifted.{AreBlocksOf, block_count}
 use Rattle.lift.specs.Given.{leaves_bare}
 use Rattle.jump_tables.specs.Forms.{is_on_path}
-use Rattle.jump_tables.specs.Window.{IsInstAt, IsPath, next_of, over, onward}
-use Rattle.jump_tables.proofs.Reading.{one_at}
+use Rattle.jump_tables.specs.declared.table.TableWindow.{TableWindow}
+use Rattle.jump_tables.specs.Window.{IsPath, IsWindow, next_of, over, onward}
+use Rattle.machine.proofs.Beginnings.{decodes}
+use Rattle.machine.proofs.Fetching.{decoded_is}
 use Rattle.window_steps.proofs.Paths.{path_move, mov, movzx, lea, shl, add, Move}
-use Rattle.window_blocks.specs.Path.{LiftedPath, more}
+use Rattle.window_blocks.specs.Path.{LiftedPath, none, more}
 use Rattle.lift_window.specs.Walk.{IsPut, IsStepped, IsWalked, JumpsAt, is_word_jump}
+
+-- one instruction at most begins at an address
+pub one_at : (m : List Segment) (r : Range) (a : ℕ) (x y : Inst) (n k : ℕ) → BeginsAt m r a x n → BeginsAt m r a y k → (n ≡ k) × (x ≡ y)
+one_at m r a x y n k b c =
+    let d = decodes m r in
+    let e : Some (x, n) ≡ Some (y, k) = sym (decoded_is m r d.0 a x n d.1 b) ∙ decoded_is m r d.0 a y k d.1 c in
+    let p : ◌≡◌ {A = Inst × ℕ} (x, n) (y, k) = cc in
+    (ap (λ q. q.1) p, ap (λ q. q.0) p)
 
 -- an instruction that is no jump by a word may be lifted
 pub not_word_jump : (x : Inst) → is_word_jump x ≡ false → leaves_bare x ≡ true
@@ -169,7 +179,7 @@ module _ (m : List Segment) (r : Range) (at : ℕ) (old : List Stmt) where
       record {
         done = done ++ y ∷ [];
         rest = rest;
-        all = append-assoc done (y ∷ []) rest ∙ ap (λ z. done ++ z ∷ rest) same.1 ∙ e;
+        all = append_assoc done (y ∷ []) rest ∙ ap (λ z. done ++ z ∷ rest) same.1 ∙ e;
         lifted = subst (λ ss. LiftedPath m r from (next_of at k) (done ++ y ∷ []) ss) (sym stmts) (more at k done y old block l b on_y blocks);
         path = subst (λ q. IsPath m r to (next_of at q) rest) (sym same.0) p;
         few = omega (arith, few, long);
@@ -177,3 +187,26 @@ module _ (m : List Segment) (r : Range) (at : ℕ) (old : List Stmt) where
 
   pub step_more : (y : Inst) (k : ℕ) (new : List Stmt) → BeginsAt m r at y k → is_word_jump y ≡ false → IsPut y at (next_of at k) old new → IsStepped m r at old new (next_of at k)
   step_more y k new b j put = λ from to insts left jumps w. more_by y k new from to insts w.done w.rest left b j put jumps w.all w.lifted w.path w.few
+
+-- ---- the whole path
+
+module _ (m : List Segment) (r : Range) (a : ℕ) (w : TableWindow) (win : IsWindow m r a w) where
+  pub walk_begins : IsWalked m r w.path w.jump win.insts (4 - 0) w.path []
+  walk_begins = record { done = []; rest = win.insts; all = refl; lifted = none; path = win.path; few = win.few }
+
+  pub walk_goes_on : (t at next : ℕ) (old new : List Stmt) → t < 4 → IsStepped m r at old new next → IsWalked m r w.path w.jump win.insts (4 - t) at old → IsWalked m r w.path w.jump win.insts (4 - (t + 1)) next new
+  walk_goes_on t at next old new l stepped h =
+      let e : 4 - t ≡ suc (4 - (t + 1)) = omega (arith, l) in
+      stepped w.path w.jump win.insts (4 - (t + 1)) (record { goal = win.goal; size = win.jump_size; begins = win.jumps })
+      (subst (λ n. IsWalked m r w.path w.jump win.insts n at old) e h)
+
+  walk_over_by : (done rest : List Inst) (at : ℕ) (stmts : List Stmt) → done ++ rest ≡ win.insts → LiftedPath m r w.path at done stmts → IsPath m r w.jump at rest → length rest ≤ 0 → LiftedPath m r w.path w.jump win.insts stmts
+  walk_over_by done _ _ stmts e l over few = subst (λ insts. LiftedPath m r w.path w.jump insts stmts) (sym (append-nil done) ∙ e) l
+  walk_over_by done _ at stmts e l (onward b n x rest c on p) few =
+      let long : length (x ∷ rest) ≡ suc (length rest) = refl in
+      absurd (let z : ⊥ = omega (arith, few, long) in z)
+
+  pub walk_over : (t at : ℕ) (stmts : List Stmt) → 4 ≤ t → IsWalked m r w.path w.jump win.insts (4 - t) at stmts → LiftedPath m r w.path w.jump win.insts stmts
+  walk_over t at stmts l h =
+      let e : 4 - t ≡ 0 = omega (arith, l) in
+      walk_over_by h.done h.rest at stmts h.all h.lifted h.path (subst (λ n. length h.rest ≤ n) e h.few)

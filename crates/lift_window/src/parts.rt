@@ -25,7 +25,7 @@ pub struct Parts {
 }
 
 // What a comparison with a number compares.
-fn compared(i: Inst) -> Option<Compared>
+fn comparison(i: Inst) -> Option<Compared>
     ensures { result ≡ compared_in i }
 {
     match i {
@@ -60,7 +60,7 @@ fn goal(i: Inst) -> Option<Operand>
 fn in_three(compare: Inst, branch: Inst, jump: Inst) -> Option<Parts>
     ensures { result ≡ parts_in compare branch jump }
 {
-    let compared = compared(compare)?;
+    let compared = comparison(compare)?;
     let condition = condition(branch)?;
     let goal = goal(jump)?;
     Some(Parts {
@@ -71,7 +71,7 @@ fn in_three(compare: Inst, branch: Inst, jump: Inst) -> Option<Parts>
 }
 
 /// The parts of the window that stands at an address.
-pub fn parts(m: &Image, r: &Range, at: u32, w: &TableWindow) -> Option<Parts>
+pub fn parts_at(m: &Image, r: &Range, at: u32, w: &TableWindow) -> Option<Parts>
     ensures { (win : IsWindow m.now r.now at w.now) → result ≡ Some (parts_of win) }
 {
     let (compare, size) = inst_at(m, r, at)?;

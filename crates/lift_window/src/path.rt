@@ -66,7 +66,7 @@ fn step(
 }
 
 /// The statements of the instructions on the path of a window, one after another.
-pub fn path(
+pub fn path_stmts(
     alloc: Global,
     m: &Image,
     r: &Range,
@@ -76,7 +76,7 @@ pub fn path(
 {
     let mut stmts = Items::new(alloc);
     let mut at = w.path;
-    for _ in 0..MOST_INSTRUCTIONS {
+    for _taken in 0..MOST_INSTRUCTIONS {
         at = step(alloc, m, r, &mut stmts, at)?;
     }
     Ok(stmts)

@@ -6,8 +6,8 @@ ghost use Rattle.lift_window.specs.Window.{AreWindowBlocks};
 
 use crate::blocks::{first_block, last_block, last_stmts};
 use crate::locals::unset;
-use crate::parts::parts;
-use crate::path::path;
+use crate::parts::parts_at;
+use crate::path::path_stmts;
 use elf_image::{Image, Range};
 use jump_tables::TableWindow;
 use micro_ir::Block;
@@ -24,10 +24,10 @@ pub fn lift_window(
     requires { IsWindow m.now r at w }
     ensures { IfOk result (λ blocks. AreWindowBlocks m.now r at w blocks.items) }
 {
-    match parts(m, &r, at, &w) {
+    match parts_at(m, &r, at, &w) {
         None => unreachable!(),
         Some(p) => {
-            let path = path(alloc, m, &r, &w)?;
+            let path = path_stmts(alloc, m, &r, &w)?;
             let stmts = last_stmts(alloc, path, p.goal)?;
             let saved = unset(stmts.as_slice())?;
             let first = first_block(alloc, at, p, saved)?;
