@@ -1,6 +1,6 @@
 -- The two blocks are those of the window.
 use Rattle.std.proofs.Common.{◌≡◌, inl, inr, ℕ, zero, suc, ◌+◌, ◌%◌, ◌^◌, ◌<◌, ◌≤◌, Bool, true, false, nat_eq, nat_lt, if◌then◌else◌, List, [], ◌∷◌, ◌++◌, take, Option, Some, None, refl, sym, ap, ◌∙◌, subst, arith, append_assoc}
-use Rattle.std.specs.Prelude.{◌&&◌, IsTrue}
+use Rattle.std.specs.Prelude.{◌&&◌, IsTrue, unwrap_or}
 use Rattle.std.specs.List.{list_any}
 use Rattle.std.proofs.lemmas.Bool.{cases_eq, eq-eqb, ne_eqb}
 use Rattle.std.proofs.lemmas.Nat.{mod_below, pow_pos}
@@ -42,6 +42,11 @@ use Rattle.window_blocks.proofs.Second.{CasesLead}
 use Rattle.window_blocks.proofs.Straight.{IsStraight}
 use Rattle.window_blocks.proofs.Whole.{AreParts, window_calls, window_covered, window_rule, window_stores}
 use Rattle.lift_window.specs.Window.{AreWindowBlocks, EndsFirst, entry_cases}
+use Rattle.lift_window.specs.Parts.{parts_of}
+use Rattle.lift_window.specs.Walk.{IsPathLifted}
+use Rattle.lift_window.specs.declared.parts.Parts.{Parts}
+use Rattle.c_words.specs.Built.{name as named}
+use Rattle.micro_ir.specs.declared.flow.End.TheVariants as end
 
 -- ---- the cases
 
@@ -148,3 +153,25 @@ module _ (m : List Segment) (r : Range) (a : ℕ) (w : TableWindow) (win : IsWin
       stores = window_stores m r a w win saved (cond_words win.condition.0) compare_block flags path (entry_cases w.count) parts;
       calls = window_calls m r a w win saved (cond_words win.condition.0) compare_block flags path (entry_cases w.count) parts;
     }
+
+  -- ---- as the code makes them
+
+  pub made_by : (blocks : List Block) (first last : Block) (p : Parts) (saved : ℕ) (path stmts : List Stmt) → p ≡ parts_of win → IsPathLifted m r w path → stmts ≡ last_stmts p.goal path → saved < 2 ^ 31
+      → list_any (sets saved) stmts ≡ false
+      → first ≡ first_of a p.compared.size p.compared.index p.condition.0 saved (cond_words p.condition.0) (alu_stmts Cmp p.compared.size p.compared.index (o.Imm p.compared.bound))
+      → last ≡ record { at = w.path; stmts = stmts; end = end.Switch (named (name.T saved)) (entry_cases w.count) }
+      → blocks ≡ first ∷ last ∷ [] → AreWindowBlocks m r a w blocks
+  made_by blocks first last p saved path stmts same lifted s local unset f l e =
+      let s1 : stmts ≡ last_stmts win.goal path = s ∙ ap (λ (q : Parts). last_stmts q.goal path) same in
+      let f1 = f ∙ ap (λ (q : Parts). first_of a q.compared.size q.compared.index q.condition.0 saved (cond_words q.condition.0) (alu_stmts Cmp q.compared.size q.compared.index (o.Imm q.compared.bound))) same in
+      let l1 : last ≡ last_of w.path win.goal saved path (entry_cases w.count) = l ∙ ap (λ ss. record { at = w.path; stmts = ss; end = end.Switch (named (name.T saved)) (entry_cases w.count) }) s1 in
+      let e1 = e ∙ ap (λ b. b ∷ last ∷ []) f1
+          ∙ ap (λ b. first_of a win.index.size win.index.operand win.condition.0 saved (cond_words win.condition.0) (alu_stmts Cmp win.index.size win.index.operand (o.Imm win.bound)) ∷ b ∷ []) l1 in
+      subst (λ bs. AreWindowBlocks m r a w bs) (sym e1) (made saved path local (subst (λ ss. list_any (sets saved) ss ≡ false) s1 unset) (lifted a win))
+
+-- the parts that are found are those of the window
+pub never_none : (p : Parts) (d : Option Parts) → d ≡ None → d ≡ Some p → ⊥
+never_none p d e f = let g : ◌≡◌ {A = Option Parts} None (Some p) = sym e ∙ f in let z : ⊥ = cc in z
+
+pub same_parts : (p q : Parts) (d : Option Parts) → d ≡ Some p → d ≡ Some q → p ≡ q
+same_parts p q d e f = let g : ◌≡◌ {A = Option Parts} (Some p) (Some q) = sym e ∙ f in ap (λ (o : Option Parts). unwrap_or o p) g

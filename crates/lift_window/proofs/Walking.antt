@@ -1,5 +1,6 @@
 -- Along the path of a window: each step lifts one instruction, until none is left.
 use Rattle.std.proofs.Common.{◌≡◌, ◌⊎◌, inl, inr, ℕ, zero, suc, ◌+◌, ◌-◌, ◌%◌, ◌^◌, ◌<◌, ◌≤◌, Bool, true, false, List, [], ◌∷◌, ◌++◌, length, take, Option, Some, None, refl, sym, ap, ◌∙◌, subst, arith, append-nil, append_assoc, length-append}
+use Rattle.std.specs.Prelude.{unwrap_or}
 use Rattle.elf_image.specs.declared.image.Segment.{Segment}
 use Rattle.elf_image.specs.declared.range.Range.{Range}
 use Rattle.elf_image.specs.Range.{bytes_to_end}
@@ -13,20 +14,33 @@ use Rattle.lift_parts.specs.Lifted.{AreBlocksOf, block_count}
 use Rattle.lift.specs.Given.{leaves_bare}
 use Rattle.jump_tables.specs.Forms.{is_on_path}
 use Rattle.jump_tables.specs.declared.table.TableWindow.{TableWindow}
-use Rattle.jump_tables.specs.Window.{IsPath, IsWindow, next_of, over, onward}
+use Rattle.jump_tables.specs.Window.{IsInstAt, IsPath, IsWindow, next_of, over, onward}
 use Rattle.machine.proofs.Beginnings.{decodes}
 use Rattle.machine.proofs.Fetching.{decoded_is}
 use Rattle.window_steps.proofs.Paths.{path_move, mov, movzx, lea, shl, add, Move}
 use Rattle.window_blocks.specs.Path.{LiftedPath, none, more}
 use Rattle.lift_window.specs.Walk.{IsPut, IsStepped, IsWalked, JumpsAt, is_word_jump}
 
+same_pair : (x y : Inst) (n k : ℕ) → ◌≡◌ {A = Option (Inst × ℕ)} (Some (x, n)) (Some (y, k)) → (n ≡ k) × (x ≡ y)
+same_pair x y n k e = (ap (λ (q : Option (Inst × ℕ)). (unwrap_or q (i.Nop, 0)).1) e, ap (λ (q : Option (Inst × ℕ)). (unwrap_or q (i.Nop, 0)).0) e)
+
 -- one instruction at most begins at an address
 pub one_at : (m : List Segment) (r : Range) (a : ℕ) (x y : Inst) (n k : ℕ) → BeginsAt m r a x n → BeginsAt m r a y k → (n ≡ k) × (x ≡ y)
 one_at m r a x y n k b c =
     let d = decodes m r in
-    let e : Some (x, n) ≡ Some (y, k) = sym (decoded_is m r d.0 a x n d.1 b) ∙ decoded_is m r d.0 a y k d.1 c in
-    let p : ◌≡◌ {A = Inst × ℕ} (x, n) (y, k) = cc in
-    (ap (λ q. q.1) p, ap (λ q. q.0) p)
+    same_pair x y n k (sym (decoded_is m r d.0 a x n d.1 b) ∙ decoded_is m r d.0 a y k d.1 c)
+
+-- what is found where an instruction begins
+pub found_is : (m : List Segment) (r : Range) (a : ℕ) (x : Inst) (n : ℕ) (d : Option (Inst × ℕ)) → IsInstAt m r a d → BeginsAt m r a x n → d ≡ Some (x, n)
+found_is m r a x n None h b = absurd (h x n b)
+found_is m r a x n (Some (y, k)) h b = let e = one_at m r a y x k n h b in (λ t. Some (e.1 t, e.0 t))
+
+pub never_none : (m : List Segment) (r : Range) (a : ℕ) (x : Inst) (n : ℕ) (d : Option (Inst × ℕ)) → IsInstAt m r a d → BeginsAt m r a x n → d ≡ None → ⊥
+never_none m r a x n d h b e = let f : ◌≡◌ {A = Option (Inst × ℕ)} None (Some (x, n)) = sym e ∙ found_is m r a x n d h b in let z : ⊥ = cc in z
+
+-- the instruction that is found, and its length
+pub found_as : (m : List Segment) (r : Range) (a : ℕ) (x y : Inst) (n k : ℕ) (d : Option (Inst × ℕ)) → IsInstAt m r a d → BeginsAt m r a x n → d ≡ Some (y, k) → (k ≡ n) × (y ≡ x)
+found_as m r a x y n k d h b e = same_pair y x k n (sym e ∙ found_is m r a x n d h b)
 
 -- an instruction that is no jump by a word may be lifted
 pub not_word_jump : (x : Inst) → is_word_jump x ≡ false → leaves_bare x ≡ true
@@ -106,46 +120,46 @@ put_none x at next blocks old e are = λ on spelled.
 -- ---- a step
 
 no_jump_on_path : (x : Inst) → is_word_jump x ≡ true → is_on_path x ≡ true → ⊥
-no_jump_on_path (i.Alu a b c d) h e = cc
-no_jump_on_path (i.Inc a b) h e = cc
-no_jump_on_path (i.Dec a b) h e = cc
-no_jump_on_path (i.Push a) h e = cc
-no_jump_on_path (i.Pop a) h e = cc
-no_jump_on_path (i.Imul3 a b c d) h e = cc
-no_jump_on_path (i.Jcc a b) h e = cc
-no_jump_on_path (i.Test a b c) h e = cc
-no_jump_on_path (i.Xchg a b c) h e = cc
-no_jump_on_path (i.Mov a b c) h e = cc
-no_jump_on_path (i.Lea a b c) h e = cc
-no_jump_on_path i.Nop h e = cc
-no_jump_on_path (i.Widen a) h e = cc
-no_jump_on_path (i.Spread a) h e = cc
-no_jump_on_path (i.Str a b c d) h e = cc
-no_jump_on_path (i.Shift a b c d) h e = cc
-no_jump_on_path (i.Ret a) h e = cc
-no_jump_on_path i.Leave h e = cc
-no_jump_on_path (i.Trap a) h e = cc
-no_jump_on_path (i.Loop a) h e = cc
-no_jump_on_path (i.Jecxz a) h e = cc
-no_jump_on_path (i.Call a) h e = cc
-no_jump_on_path (i.Jmp a) h e = cc
-no_jump_on_path (i.Carry a) h e = cc
-no_jump_on_path (i.Not a b) h e = cc
-no_jump_on_path (i.Neg a b) h e = cc
-no_jump_on_path (i.Mul a b) h e = cc
-no_jump_on_path (i.ImulWide a b) h e = cc
-no_jump_on_path (i.Div a b) h e = cc
-no_jump_on_path (i.Idiv a b) h e = cc
-no_jump_on_path (i.CallTo a) h e = cc
-no_jump_on_path (i.JmpTo a) h e = cc
-no_jump_on_path (i.Cmov a b c d) h e = cc
-no_jump_on_path (i.Set a b) h e = cc
-no_jump_on_path (i.Bit a b c d) h e = cc
-no_jump_on_path (i.DShift a b c d) h e = cc
-no_jump_on_path (i.Imul2 a b c) h e = cc
-no_jump_on_path (i.Movx a b c d e) h e = cc
-no_jump_on_path (i.Scan a b c d e) h e = cc
-no_jump_on_path (i.Bswap a) h e = cc
+no_jump_on_path (i.Alu a b c d) h on = let z : ⊥ = cc in z
+no_jump_on_path (i.Inc a b) h on = let z : ⊥ = cc in z
+no_jump_on_path (i.Dec a b) h on = let z : ⊥ = cc in z
+no_jump_on_path (i.Push a) h on = let z : ⊥ = cc in z
+no_jump_on_path (i.Pop a) h on = let z : ⊥ = cc in z
+no_jump_on_path (i.Imul3 a b c d) h on = let z : ⊥ = cc in z
+no_jump_on_path (i.Jcc a b) h on = let z : ⊥ = cc in z
+no_jump_on_path (i.Test a b c) h on = let z : ⊥ = cc in z
+no_jump_on_path (i.Xchg a b c) h on = let z : ⊥ = cc in z
+no_jump_on_path (i.Mov a b c) h on = let z : ⊥ = cc in z
+no_jump_on_path (i.Lea a b c) h on = let z : ⊥ = cc in z
+no_jump_on_path i.Nop h on = let z : ⊥ = cc in z
+no_jump_on_path (i.Widen a) h on = let z : ⊥ = cc in z
+no_jump_on_path (i.Spread a) h on = let z : ⊥ = cc in z
+no_jump_on_path (i.Str a b c d) h on = let z : ⊥ = cc in z
+no_jump_on_path (i.Shift a b c d) h on = let z : ⊥ = cc in z
+no_jump_on_path (i.Ret a) h on = let z : ⊥ = cc in z
+no_jump_on_path i.Leave h on = let z : ⊥ = cc in z
+no_jump_on_path (i.Trap a) h on = let z : ⊥ = cc in z
+no_jump_on_path (i.Loop a) h on = let z : ⊥ = cc in z
+no_jump_on_path (i.Jecxz a) h on = let z : ⊥ = cc in z
+no_jump_on_path (i.Call a) h on = let z : ⊥ = cc in z
+no_jump_on_path (i.Jmp a) h on = let z : ⊥ = cc in z
+no_jump_on_path (i.Carry a) h on = let z : ⊥ = cc in z
+no_jump_on_path (i.Not a b) h on = let z : ⊥ = cc in z
+no_jump_on_path (i.Neg a b) h on = let z : ⊥ = cc in z
+no_jump_on_path (i.Mul a b) h on = let z : ⊥ = cc in z
+no_jump_on_path (i.ImulWide a b) h on = let z : ⊥ = cc in z
+no_jump_on_path (i.Div a b) h on = let z : ⊥ = cc in z
+no_jump_on_path (i.Idiv a b) h on = let z : ⊥ = cc in z
+no_jump_on_path (i.CallTo a) h on = let z : ⊥ = cc in z
+no_jump_on_path (i.JmpTo a) h on = let z : ⊥ = cc in z
+no_jump_on_path (i.Cmov a b c d) h on = let z : ⊥ = cc in z
+no_jump_on_path (i.Set a b) h on = let z : ⊥ = cc in z
+no_jump_on_path (i.Bit a b c d) h on = let z : ⊥ = cc in z
+no_jump_on_path (i.DShift a b c d) h on = let z : ⊥ = cc in z
+no_jump_on_path (i.Imul2 a b c) h on = let z : ⊥ = cc in z
+no_jump_on_path (i.Movx a b c d e) h on = let z : ⊥ = cc in z
+no_jump_on_path (i.Scan a b c d e) h on = let z : ⊥ = cc in z
+no_jump_on_path (i.Bswap a) h on = let z : ⊥ = cc in z
 
 module _ (m : List Segment) (r : Range) (at : ℕ) (old : List Stmt) where
   -- nothing is done where the path ends
