@@ -166,7 +166,7 @@ module _ (m : List Segment) (r : Range) (a : ℕ) (w : TableWindow) (win : IsWin
       let f1 = f ∙ ap (λ (q : Parts). first_of a q.compared.size q.compared.index q.condition.0 saved (cond_words q.condition.0) (alu_stmts Cmp q.compared.size q.compared.index (o.Imm q.compared.bound))) same in
       let l1 : last ≡ last_of w.path win.goal saved path (entry_cases w.count) = l ∙ ap (λ ss. record { at = w.path; stmts = ss; end = end.Switch (named (name.T saved)) (entry_cases w.count) }) s1 in
       let e1 = e ∙ ap (λ b. b ∷ last ∷ []) f1
-          ∙ ap (λ b. first_of a win.index.size win.index.operand win.condition.0 saved (cond_words win.condition.0) (alu_stmts Cmp win.index.size win.index.operand (o.Imm win.bound)) ∷ b ∷ []) l1 in
+      ∙ ap (λ b. first_of a win.index.size win.index.operand win.condition.0 saved (cond_words win.condition.0) (alu_stmts Cmp win.index.size win.index.operand (o.Imm win.bound)) ∷ b ∷ []) l1 in
       subst (λ bs. AreWindowBlocks m r a w bs) (sym e1) (made saved path local (subst (λ ss. list_any (sets saved) ss ≡ false) s1 unset) (lifted a win))
 
 -- the parts that are found are those of the window

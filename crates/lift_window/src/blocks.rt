@@ -102,7 +102,11 @@ fn entry_cases(alloc: Global, n: u32) -> Result<Vec<Case>, AllocError>
 }
 
 /// The statements of the second block: those of the path, and the read of the jump's word.
-pub fn last_stmts(alloc: Global, path: Items<Stmt>, goal: Operand) -> Result<Items<Stmt>, AllocError>
+pub fn last_stmts(
+    alloc: Global,
+    path: Items<Stmt>,
+    goal: Operand,
+) -> Result<Items<Stmt>, AllocError>
     ensures { IfOk result (λ stmts. stmts ≡ last_stmts_of goal path) }
 {
     let mut stmts = path;
