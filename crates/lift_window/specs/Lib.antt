@@ -1,1 +1,3 @@
 pub mod Window
+pub mod Parts
+pub mod Walk

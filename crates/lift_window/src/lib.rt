@@ -3,6 +3,10 @@
 //! Promised are blocks that do what the machine does there, in several steps, up to the default or a target.
 #![tactic(auto)]
 
+mod blocks;
+mod locals;
+mod parts;
+mod path;
 mod window;
 
 pub use window::lift_window;
