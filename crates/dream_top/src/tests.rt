@@ -540,7 +540,9 @@ fn takes_tables(rt: HostRuntime) -> Result<(), Fail> {
     for (branch, table, word, eax) in cases {
         let file = elf_with_table(alloc, branch, 4, table)?;
         let ran = run(alloc, file, "0x08048100+f", word, "", "")?;
-        let line = format!(in alloc; "returned {eax} ecx=00000000 edx=00000000 ebx=00000000 esp=bfff0004 ebp=00000000 esi=00000000 edi=00000000 calls=0 changed=0\n")?;
+        let line = format!(in alloc;
+            "returned {eax} ecx=00000000 edx=00000000 ebx=00000000 esp=bfff0004 ebp=00000000 esi=00000000 edi=00000000 calls=0 changed=0\n"
+        )?;
         let both = format!(in alloc; "{line}{line}")?;
         assert!(rt; ran.status == Status::Done, "{word}");
         assert_eq!(rt; ran.out.bytes(), both.as_bytes(), "{word}");
@@ -693,7 +695,11 @@ fn tells_of_drills(rt: HostRuntime) -> Result<(), Fail> {
     let mut files = files(alloc, elf(alloc, &MOVE)?, Vec::new(alloc))?;
     let ran = call(alloc, &mut files, &["drill", "500"], sink(alloc)?)?;
     assert!(rt; ran.status == Status::Done);
-    assert!(rt; ran.out.bytes().starts_with(b"functions=500 bytes=10060 accepted=500 components=188 "));
+    assert!(rt;
+        ran.out
+            .bytes()
+            .starts_with(b"functions=500 bytes=10060 accepted=500 components=188 ")
+    );
     assert!(rt; ran.out.bytes().ends_with(b"\n"));
     assert_eq!(rt; ran.notes.bytes().len(), 0);
     Ok(())

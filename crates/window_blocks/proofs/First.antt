@@ -90,7 +90,7 @@ module _ (at next : ℕ) (size : Size) (x : Operand) (bound saved : ℕ) (b : Bl
       let kept : u.names (name.T 0) ≡ v.names (name.T 0) = local_there 0 flags v u keeps rest in
       let shown_there : Shows a u.names = record { regs = sym stands.regs; fs = sym stands.fs; gs = sym stands.gs } in
       let value : word_of (value_word size x) u.names ≡ Some (value_in size x s) =
-          value_is a u.names (names_of_world u there) shown_there size x (record { read = λ e. kept ∙ first.read e }) ∙ ap (λ n. Some n) (same_value next size x bound s place) in
+      value_is a u.names (names_of_world u there) shown_there size x (record { read = λ e. kept ∙ first.read e }) ∙ ap (λ n. Some n) (same_value next size x bound s place) in
       let small : value_in size x s < 2 ^ 32 = subst (λ n. n < 2 ^ 32) (same_value next size x bound s place) (value_is_word a u.names (names_of_world u there) shown_there size x) in
       record {
         world = set_word (name.T saved) (value_in size x s) u;

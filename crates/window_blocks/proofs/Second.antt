@@ -44,16 +44,19 @@ pub reads_stand : (p : Operand) (next : ℕ) (s : State) (w : World) → IsWorld
 reads_stand p next s w is st =
     let a : Step = step_of (i.JmpTo p) next s in
     let shown : Shows a w.names = record { regs = sym st.regs; fs = sym st.fs; gs = sym st.gs } in
-    let (u, runs, read, first) = reads_run W p a w (names_of_world w is) is.bytes shown (ap (read_by (operand_read W p s.regs s.fs s.gs)) st.mem) in
-    (u, runs, record {
-      regs = st.regs ∙ sym read.regs;
-      flags = flags_stay s.flags w.names u.names read.flags st.flags;
-      fs = st.fs ∙ sym read.fs;
-      gs = st.gs ∙ sym read.gs;
-      mem = st.mem ∙ sym read.mem;
-      left = st.left ∙ sym read.left;
-      calls = st.calls ∙ sym read.calls;
-    })
+    let (u, runs, read, first) = reads_run W p a w (names_of_world w is) is.bytes shown (ap (read_by (operand_read W p s.regs s.fs s.gs)) st.mem) in (
+      u,
+      runs,
+      record {
+        regs = st.regs ∙ sym read.regs;
+        flags = flags_stay s.flags w.names u.names read.flags st.flags;
+        fs = st.fs ∙ sym read.fs;
+        gs = st.gs ∙ sym read.gs;
+        mem = st.mem ∙ sym read.mem;
+        left = st.left ∙ sym read.left;
+        calls = st.calls ∙ sym read.calls;
+      },
+    )
 
 -- every world stands for a state
 pub no_flags : Flags

@@ -220,7 +220,7 @@ module _ (m : List Segment) (r : Range) (a : ℕ) (w : TableWindow) (win : IsWin
         let known : Known = after_all win.index (at_first win.index) win.insts in
         let (v, runs, st) = reads_stand win.goal 0 along.state along.world along.is along.stands in
         let step = jump_step m r decoded decodes start win.index known (value s) w.jump win.jump_size w.count w.table win.goal along.state win.jumps win.through along.holds
-            (bytes_fit along.state along.world along.is along.stands) along.frozen win.entries lt in
+        (bytes_fit along.state along.world along.is along.stands) along.frozen win.entries lt in
         record {
           state = along.state;
           world = v;
@@ -336,7 +336,7 @@ module _ (m : List Segment) (r : Range) (a : ℕ) (w : TableWindow) (win : IsWin
   copy_flow : saved < 2 ^ 31 → IsTrue (are_flow_stmts (stmt.Set (name.T saved) (value_word size x) ∷ []))
   copy_flow l =
       let formed = and_parts (is_formed_operand x) (is_formed_operand (o.Imm win.bound) && not (is_memory x && is_memory (o.Imm win.bound)))
-          (begins_formed m r a (i.Alu Cmp size x (o.Imm win.bound)) win.compare_size win.compares) in
+      (begins_formed m r a (i.Alu Cmp size x (o.Imm win.bound)) win.compare_size win.compares) in
       let target : IsTrue (is_flow_target (name.T saved)) = both_hold (nat_lt saved (2 ^ 31)) true (below_test saved (2 ^ 31) l) refl in
       let word : IsTrue (is_flow_word (value_word size x)) = fit_word 3 (value_word size x) (lit≤ tt) (value_fit size x formed.0) in
       both_hold (is_flow_target (name.T saved) && is_flow_word (value_word size x)) true (both_hold (is_flow_target (name.T saved)) (is_flow_word (value_word size x)) target word) refl

@@ -212,7 +212,7 @@ module _ (x : Index) (k : Known) (n : ℕ) (s : State) (h : Holds x n k s) (fit 
 
   shl_reg : (b : Bool) (size : Size) (d c next : ℕ) → b ≡ (c % 32 == 0) → d < 8 → let inst = i.Shift Shl size (o.Reg d) (count.Imm c) in let a = step_of inst next s in
       Sets x k n inst s (if b then shift_none (count.Imm c) size (o.Reg d) (value_of size (o.Reg d) a) a
-        else put size (o.Reg d) (shift_value Shl (bits_of size) (value_of size (o.Reg d) a) (c % 32)) a (done a (shift_flags Shl (bits_of size) (value_of size (o.Reg d) a) (c % 32) a.flags)))
+      else put size (o.Reg d) (shift_value Shl (bits_of size) (value_of size (o.Reg d) a) (c % 32)) a (done a (shift_flags Shl (bits_of size) (value_of size (o.Reg d) a) (c % 32) a.flags)))
   shl_reg true B d c next e l = none_set (i.Shift Shl B (o.Reg d) (count.Imm c)) (step_of (i.Shift Shl B (o.Reg d) (count.Imm c)) next s) refl (λ r w b. tt)
   shl_reg true H d c next e l = none_set (i.Shift Shl H (o.Reg d) (count.Imm c)) (step_of (i.Shift Shl H (o.Reg d) (count.Imm c)) next s) refl (λ r w b. tt)
   shl_reg true W d c next e l = none_set (i.Shift Shl W (o.Reg d) (count.Imm c)) (step_of (i.Shift Shl W (o.Reg d) (count.Imm c)) next s) refl
@@ -230,13 +230,13 @@ module _ (x : Index) (k : Known) (n : ℕ) (s : State) (h : Holds x n k s) (fit 
   -- of memory or a number nothing is shifted
   shl_memory : (b : Bool) (size : Size) (m : Address) (c next : ℕ) → b ≡ true → let inst = i.Shift Shl size (o.Mem m) (count.Imm c) in let a = step_of inst next s in
       Sets x k n inst s (if b then shift_none (count.Imm c) size (o.Mem m) (value_of size (o.Mem m) a) a
-        else put size (o.Mem m) (shift_value Shl (bits_of size) (value_of size (o.Mem m) a) (c % 32)) a (done a (shift_flags Shl (bits_of size) (value_of size (o.Mem m) a) (c % 32) a.flags)))
+      else put size (o.Mem m) (shift_value Shl (bits_of size) (value_of size (o.Mem m) a) (c % 32)) a (done a (shift_flags Shl (bits_of size) (value_of size (o.Mem m) a) (c % 32) a.flags)))
   shl_memory true size m c next e = none_set (i.Shift Shl size (o.Mem m) (count.Imm c)) (step_of (i.Shift Shl size (o.Mem m) (count.Imm c)) next s) refl (λ r w b. absurd (let z : ⊥ = cc in z))
   shl_memory false size m c next e = absurd (let z : ⊥ = cc in z)
 
   shl_number : (b : Bool) (size : Size) (v c next : ℕ) → let inst = i.Shift Shl size (o.Imm v) (count.Imm c) in let a = step_of inst next s in
       Sets x k n inst s (if b then shift_none (count.Imm c) size (o.Imm v) (value_of size (o.Imm v) a) a
-        else put size (o.Imm v) (shift_value Shl (bits_of size) (value_of size (o.Imm v) a) (c % 32)) a (done a (shift_flags Shl (bits_of size) (value_of size (o.Imm v) a) (c % 32) a.flags)))
+      else put size (o.Imm v) (shift_value Shl (bits_of size) (value_of size (o.Imm v) a) (c % 32)) a (done a (shift_flags Shl (bits_of size) (value_of size (o.Imm v) a) (c % 32) a.flags)))
   shl_number true size v c next = record { goes = refl; stores = refl; keeps = λ j t. refl; gives = λ r w b. absurd (let z : ⊥ = cc in z) }
   shl_number false size v c next = record { goes = refl; stores = refl; keeps = λ j t. refl; gives = λ r w b. absurd (let z : ⊥ = cc in z) }
 

@@ -135,6 +135,6 @@ module _ (m : List Segment) (r : Range) (decoded : ℕ → Option (Inst × ℕ))
       let a = step_of (i.JmpTo p) next s in
       let value : value_of W p a ≡ frozen_word m (t + 4 * n) = jump_value p next s ∙ goal_is x k n t p s h bytes (begins_formed m r at (i.JmpTo p) size b) g ∙ word_is m s.mem frozen t count entries n l in
       let e : effect_in (i.JmpTo p) next s ≡ goes (go.To (frozen_word m (t + 4 * n))) a =
-          ap (λ q. goes (if q then go.LeaveTo (value_of W p a) else go.To (value_of W p a)) a) (loose k.forms p t g) ∙ ap (λ v. goes (go.To v) a) value in
+      ap (λ q. goes (if q then go.LeaveTo (value_of W p a) else go.To (value_of W p a)) a) (loose k.forms p t g) ∙ ap (λ v. goes (go.To v) a) value in
       step_to m r decoded decodes start at (i.JmpTo p) size (frozen_word m (t + 4 * n)) s b (ap (λ f. f.store) e) (ap (λ f. f.go) e)
       ∙ ap (λ (f : Effect). At (frozen_word m (t + 4 * n)) (with_regs s f.regs f.flags)) e
