@@ -1,5 +1,5 @@
 -- The first block of a window: the comparison, the copy of the index, and the branch.
-use Rattle.std.proofs.Common.{◌≡◌, ℕ, ◌+◌, ◌%◌, ◌^◌, ◌<◌, Bool, true, false, nat_eq, nat_lt, if◌then◌else◌, List, [], ◌∷◌, ◌++◌, Option, Some, None, refl, sym, ap, ◌∙◌, subst, arith}
+use Rattle.std.proofs.Common.{◌≡◌, ℕ, ◌^◌, ◌<◌, Bool, true, false, if◌then◌else◌, List, [], ◌∷◌, ◌++◌, Some, refl, sym, ap, ◌∙◌, subst}
 use Rattle.std.specs.Prelude.{not}
 use Rattle.std.specs.List.{list_any}
 use Rattle.std.proofs.lemmas.Bool.{eq-eqb}
@@ -20,11 +20,10 @@ use Rattle.x86_model.specs.Operands.{bits_of, value_of}
 use Rattle.x86_model.specs.Reads.{pair_read}
 use Rattle.run_parts.specs.Effects.{set_word}
 use Rattle.run_parts.specs.Steps.{To, arrive}
-use Rattle.run_parts.specs.World.{Names, World, regs_in, with_name}
+use Rattle.run_parts.specs.World.{Names, World, with_name}
 use Rattle.c_syntax.specs.declared.syntax.CCond.{CCond}
 use Rattle.c_syntax.specs.Value.{truth_of, word_of}
 use Rattle.micro_ir.specs.declared.flow.Block.{Block}
-use Rattle.micro_ir.specs.declared.flow.End.TheVariants as end
 use Rattle.micro_ir.specs.declared.flow.Stmt.{Stmt}
 use Rattle.micro_ir.specs.declared.flow.Stmt.TheVariants as stmt
 use Rattle.micro_ir.specs.Run.{block_leads, branch, end_leads}
@@ -37,7 +36,7 @@ use Rattle.lift_parts.proofs.Chains.{none_run, runs_append, set_runs}
 use Rattle.lift_parts.proofs.Kept.{flags_temp, pair_reads_run}
 use Rattle.lift_parts.proofs.Values.{names_of_world, value_is, value_is_word}
 use Rattle.jump_tables.specs.Window.{is_place}
-use Rattle.window_steps.specs.Knowledge.{is_above, value_in}
+use Rattle.window_steps.specs.Knowledge.{value_in}
 use Rattle.window_steps.proofs.Operands.{with_regs}
 use Rattle.window_steps.proofs.Quiet.{does_next}
 use Rattle.window_blocks.specs.Locals.{sets}

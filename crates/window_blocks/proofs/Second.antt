@@ -1,6 +1,5 @@
 -- The second block of a window: the path, and the switch by the copy of the index.
-use Rattle.std.proofs.Common.{◌≡◌, ◌⊎◌, inl, inr, ℕ, ◌+◌, ◌%◌, ◌^◌, ◌<◌, Bool, true, false, List, [], ◌∷◌, ◌++◌, Option, Some, refl, sym, ap, ◌∙◌, subst, arith}
-use Rattle.std.specs.Prelude.{IsTrue}
+use Rattle.std.proofs.Common.{◌≡◌, ◌⊎◌, inl, inr, ℕ, ◌+◌, ◌<◌, true, false, List, Some, refl, sym, ap, ◌∙◌, subst}
 use Rattle.std.specs.List.{list_any}
 use Rattle.dream_words.specs.declared.machine.Bit.TheVariants.{Undefined}
 use Rattle.dream_words.specs.declared.machine.Flags.{Flags}
@@ -29,12 +28,12 @@ use Rattle.micro_ir.specs.Run.{block_leads, by_value, end_leads, first_case, stm
 use Rattle.micro_ir.specs.World.{IsWorld}
 use Rattle.lift_parts.specs.Parts.{reads}
 use Rattle.lift_parts.specs.Shown.{Runs, Shows}
-use Rattle.lift_parts.specs.Stands.{FlagsStand, Stands, state_in}
+use Rattle.lift_parts.specs.Stands.{Stands, state_in}
 use Rattle.lift_parts.proofs.Fit.{reads_fit}
 use Rattle.lift_parts.proofs.Kept.{flags_stay, reads_run}
 use Rattle.lift_parts.proofs.Values.{names_of_world}
 use Rattle.window_blocks.specs.Locals.{sets}
-use Rattle.window_blocks.proofs.Doing.{Keeps, Settles, local_there, settles, stmts_keep, world_there}
+use Rattle.window_blocks.proofs.Doing.{Keeps, Settles, local_there, stmts_keep, world_there}
 use Rattle.window_blocks.proofs.PathRuns.{AreQuiet}
 
 -- ---- the read of the jump's word

@@ -1,8 +1,7 @@
 -- What the statements of an instruction do that has one block, goes on, and neither stores nor asks.
-use Rattle.std.proofs.Common.{◌≡◌, ℕ, zero, suc, ◌+◌, ◌%◌, ◌<◌, nat_lt, Bool, true, false, cond, if◌then◌else◌, List, [], ◌∷◌, length, Option, Some, None, refl, sym, ap, ◌∙◌, subst, arith}
-use Rattle.std.specs.Prelude.{slice_get, IsTrue, ◌&&◌}
+use Rattle.std.proofs.Common.{◌≡◌, ℕ, zero, suc, ◌+◌, ◌<◌, nat_lt, Bool, true, false, if◌then◌else◌, List, [], ◌∷◌, length, Some, refl, sym, ap, ◌∙◌, subst, arith}
+use Rattle.std.specs.Prelude.{slice_get, IsTrue}
 use Rattle.std.proofs.lemmas.Bool.Decides.{nat_tests}
-use Rattle.dream_words.specs.declared.machine.Flags.{Flags}
 use Rattle.dream_words.specs.declared.machine.Regs.{Regs}
 use Rattle.dream_words.specs.declared.machine.Name.TheVariants as name
 use Rattle.dream_words.specs.declared.outcome.Answer.{Answer}
@@ -13,20 +12,19 @@ use Rattle.x86_model.specs.Leads.{instruction_does}
 use Rattle.x86_model.specs.Machine.{At, State}
 use Rattle.x86_model.specs.Successors.{asks, stores, successors_of}
 use Rattle.run_parts.specs.Effects.{Doing}
-use Rattle.run_parts.specs.Steps.{Next, Halt, Jam, To, End, Nowhere, arrive}
+use Rattle.run_parts.specs.Steps.{Next, Halt, Jam, To, arrive}
 use Rattle.run_parts.specs.World.{World, regs_in}
 use Rattle.c_syntax.specs.Run.{does_ext}
 use Rattle.micro_ir.specs.declared.flow.Block.{Block}
 use Rattle.micro_ir.specs.declared.flow.End.{End as BlockEnd}
 use Rattle.micro_ir.specs.declared.flow.End.TheVariants as end
-use Rattle.micro_ir.specs.declared.flow.Stmt.{Stmt}
 use Rattle.micro_ir.specs.Counts.{calls_of_end, calls_of_stmts, stores_of_stmts}
-use Rattle.micro_ir.specs.Rule.{are_flow_blocks, are_flow_stmts, is_flow_block, is_flow_end}
+use Rattle.micro_ir.specs.Rule.{are_flow_stmts, is_flow_block, is_flow_end}
 use Rattle.micro_ir.specs.Run.{enter, end_leads, left_by, stmts_do}
 use Rattle.micro_ir.specs.World.{IsWorld}
-use Rattle.lift_parts.specs.Lifted.{AreBlocksOf, EndAs, IsPlain, Matches, OneEnds, Stays, block_count, once, through}
+use Rattle.lift_parts.specs.Lifted.{AreBlocksOf, IsPlain, Matches, Stays, block_count, once, through}
 use Rattle.lift_parts.specs.Shown.{Runs}
-use Rattle.lift_parts.specs.Stands.{FlagsStand, Stands, state_in}
+use Rattle.lift_parts.specs.Stands.{Stands, state_in}
 use Rattle.lift_parts.proofs.Sureness.{both_true}
 use Rattle.window_blocks.proofs.Doing.{IsDone, Settles, settles}
 

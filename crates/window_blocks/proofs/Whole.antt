@@ -1,8 +1,8 @@
 -- The two blocks of a window do what the machine does there, in several steps.
-use Rattle.std.proofs.Common.{◌≡◌, ◌⊎◌, inl, inr, ℕ, zero, suc, ◌+◌, ◌*◌, ◌%◌, ◌^◌, ◌<◌, ◌≤◌, Bool, true, false, nat_eq, nat_lt, if◌then◌else◌, List, [], ◌∷◌, ◌++◌, length, length-append, Option, Some, None, refl, sym, ap, ◌∙◌, subst, arith, lit≤}
+use Rattle.std.proofs.Common.{◌≡◌, inl, inr, ℕ, zero, suc, ◌+◌, ◌*◌, ◌%◌, ◌^◌, ◌<◌, ◌≤◌, Bool, true, false, nat_eq, nat_lt, if◌then◌else◌, List, [], ◌∷◌, ◌++◌, length, length-append, Option, Some, refl, sym, ap, ◌∙◌, subst, arith, lit≤}
 use Rattle.std.specs.Prelude.{◌&&◌, ◌||◌, not, IsTrue, slice_get}
 use Rattle.std.specs.List.{list_any}
-use Rattle.std.proofs.lemmas.Bool.{and_parts, cases_eq, eqb-true, lt-ltb, ltb-true}
+use Rattle.std.proofs.lemmas.Bool.{and_parts, cases_eq, eqb-true, ltb-true}
 use Rattle.std.proofs.lemmas.Nat.{mod_below, pow_pos}
 use Rattle.elf_image.specs.declared.image.Segment.{Segment}
 use Rattle.elf_image.specs.declared.range.Range.{Range}
@@ -20,9 +20,7 @@ use Rattle.x86_inst.specs.declared.Operand.TheVariants as o
 use Rattle.x86_inst.specs.declared.Size.{Size}
 use Rattle.x86_inst.specs.declared.Size.TheVariants.{B, H, W}
 use Rattle.x86_formed.specs.Formed.{is_formed_operand, is_memory}
-use Rattle.x86_model.specs.Arithmetic.{difference_flags}
-use Rattle.x86_model.specs.Effects.{condition_of}
-use Rattle.x86_model.specs.Machine.{At, Onward, Ending, State}
+use Rattle.x86_model.specs.Machine.{At, State}
 use Rattle.x86_model.specs.Operands.{bits_of}
 use Rattle.machine.specs.Code.{Decodes}
 use Rattle.machine.specs.Run.{Scene}
@@ -32,7 +30,6 @@ use Rattle.c_syntax.specs.declared.syntax.CCond.{CCond}
 use Rattle.c_words.specs.Built.{name as named}
 use Rattle.micro_ir.specs.declared.flow.Block.{Block}
 use Rattle.micro_ir.specs.declared.flow.Case.{Case}
-use Rattle.micro_ir.specs.declared.flow.End.TheVariants as end
 use Rattle.micro_ir.specs.declared.flow.Stmt.{Stmt}
 use Rattle.micro_ir.specs.declared.flow.Stmt.TheVariants as stmt
 use Rattle.micro_ir.specs.Counts.{calls_of, calls_of_end, stores_of}
@@ -41,28 +38,25 @@ use Rattle.micro_ir.specs.Run.{Arrive, block_leads, enter}
 use Rattle.micro_ir.specs.World.{IsWorld}
 use Rattle.lift_parts.specs.Lifted.{Matches, Stays, through}
 use Rattle.lift_parts.specs.Parts.{pair_reads, reads, temp, value_word}
-use Rattle.lift_parts.specs.Shown.{Runs}
 use Rattle.lift_parts.specs.Stands.{Stands}
 use Rattle.lift_parts.proofs.Chains.{runs_append}
 use Rattle.lift_parts.proofs.Fit.{below_test, both_hold, fit_word, temp_fit, value_fit}
 use Rattle.jump_tables.specs.Forms.{Index, Known, after_all, at_first, first_forms}
-use Rattle.jump_tables.specs.Window.{IsWindow, frozen_word, next_of, target_of, targets_of, window_successors}
+use Rattle.jump_tables.specs.Window.{IsWindow, next_of, target_of, targets_of, window_successors}
 use Rattle.jump_tables.specs.declared.forms.Form.TheVariants as form
 use Rattle.jump_tables.specs.declared.table.TableWindow.{TableWindow}
-use Rattle.flow_pieces.specs.declared.piece.FlowPiece.{FlowPiece}
 use Rattle.flow_pieces.specs.Covered.{Follows, IsCovered}
 use Rattle.window_steps.specs.Knowledge.{Holds, Says, is_above, value_in}
 use Rattle.window_steps.proofs.Branches.{Turns, branch_step, compare_step, taken, turns, value_below}
 use Rattle.window_steps.proofs.Moves.{RegsFit}
-use Rattle.window_steps.proofs.Operands.{with_regs}
 use Rattle.window_steps.proofs.Paths.{begins_formed}
 use Rattle.window_steps.proofs.Quiet.{Quiet, quiet_more, quiet_none, run_from, scene}
 use Rattle.window_steps.proofs.Tables.{jump_step}
 use Rattle.window_blocks.specs.Locals.{sets}
 use Rattle.window_blocks.specs.Path.{LiftedPath}
 use Rattle.window_blocks.specs.Shapes.{first_end, first_of, last_of}
-use Rattle.window_blocks.proofs.First.{Copied, Tells, compared, copy_runs, first_leads}
-use Rattle.window_blocks.proofs.PathRuns.{Along, AreQuiet, bytes_fit, calls_append, flow_append, stores_append, path_along, path_quiet, quiet_append, regs_fit, straight_quiet}
+use Rattle.window_blocks.proofs.First.{Tells, compared, copy_runs, first_leads}
+use Rattle.window_blocks.proofs.PathRuns.{AreQuiet, bytes_fit, calls_append, flow_append, stores_append, path_along, path_quiet, quiet_append, regs_fit, straight_quiet}
 use Rattle.window_blocks.proofs.Second.{CasesLead, any_stands, any_state, reads_quiet, reads_stand, second_leads, second_stays}
 use Rattle.window_blocks.proofs.Straight.{IsStraight}
 

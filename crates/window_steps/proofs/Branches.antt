@@ -1,6 +1,6 @@
 -- The comparison of the index, and the branch by it.
-use Rattle.std.proofs.Common.{◌≡◌, ℕ, ◌+◌, ◌-◌, ◌%◌, ◌/◌, ◌^◌, ◌<◌, ◌≤◌, inl, inr, Bool, true, false, nat_eq, nat_lt, if◌then◌else◌, List, Option, Some, None, refl, sym, ap, ◌∙◌, subst, arith, add-zero}
-use Rattle.std.specs.Prelude.{◌&&◌, ◌||◌, not, ◌==◌, ◌↔◌, unwrap_or}
+use Rattle.std.proofs.Common.{◌≡◌, ℕ, ◌+◌, ◌-◌, ◌%◌, ◌/◌, ◌^◌, ◌<◌, inl, inr, Bool, true, false, nat_eq, nat_lt, if◌then◌else◌, List, Option, Some, None, refl, sym, ap, ◌∙◌, subst, arith, add-zero}
+use Rattle.std.specs.Prelude.{◌||◌, not, ◌==◌, unwrap_or}
 use Rattle.std.proofs.Math.Nat.{mod-eq_of_lt}
 use Rattle.std.proofs.lemmas.Bool.{cases_eq, eq-eqb, eqb-true, ne_eqb}
 use Rattle.std.proofs.lemmas.Bool.Decides.{nat_tests}
@@ -11,7 +11,7 @@ use Rattle.dream_words.specs.declared.machine.Flags.{Flags}
 use Rattle.dream_words.specs.declared.outcome.Start.{Start}
 use Rattle.dream_words.specs.Memory.{load, bytes_of}
 use Rattle.dream_words.specs.Registers.{reg_of}
-use Rattle.dream_words.specs.Words.{bit_of, borrows, low_part}
+use Rattle.dream_words.specs.Words.{borrows, low_part}
 use Rattle.x86_inst.specs.declared.AluOp.TheVariants.{Cmp}
 use Rattle.x86_inst.specs.declared.Cond.{Cond}
 use Rattle.x86_inst.specs.declared.Inst.{Inst}

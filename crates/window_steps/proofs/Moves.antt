@@ -1,11 +1,11 @@
 -- What each instruction of a path does: which register it writes, and what its form says of the word.
-use Rattle.std.proofs.Common.{◌≡◌, ℕ, zero, suc, ◌+◌, ◌*◌, ◌%◌, ◌^◌, ◌<◌, Bool, true, false, nat_eq, if◌then◌else◌, Option, Some, None, refl, sym, ap, ◌∙◌, subst, arith}
+use Rattle.std.proofs.Common.{◌≡◌, ℕ, ◌+◌, ◌*◌, ◌%◌, ◌^◌, ◌<◌, Bool, true, false, nat_eq, if◌then◌else◌, Option, Some, None, refl, sym, ap, ◌∙◌, subst, arith}
 use Rattle.std.specs.Prelude.{◌&&◌, ◌||◌, not, ◌==◌}
 use Rattle.std.proofs.Math.Nat.{mod-eq_of_lt, mul-one}
-use Rattle.std.proofs.lemmas.Bool.{and_parts, ltb-true, eqb-true, both_ways}
+use Rattle.std.proofs.lemmas.Bool.{and_parts, ltb-true, eqb-true}
 use Rattle.dream_words.specs.declared.machine.Regs.{Regs}
 use Rattle.dream_words.specs.declared.machine.Flags.{Flags}
-use Rattle.dream_words.specs.Memory.{Mem, load, byte_at, bytes_of}
+use Rattle.dream_words.specs.Memory.{Mem, load, byte_at}
 use Rattle.dream_words.specs.Ranges.{AreBytes}
 use Rattle.dream_words.specs.Registers.{reg_of, with_reg}
 use Rattle.dream_words.specs.Words.{low_part}
@@ -32,12 +32,12 @@ use Rattle.x86_model.specs.Machine.{State}
 use Rattle.x86_model.specs.Operands.{address_of, base_of, bits_of, value_of, with_part}
 use Rattle.x86_model.specs.WideRows.{shift_flags, shift_none, shift_value}
 use Rattle.x86_model.specs.Successors.{is_memory}
-use Rattle.jump_tables.specs.Forms.{Index, Known, after, entry_of, form_after, is_on_path, is_part_of, memory_table, moved_form, plus, reads_again, same_operand, same_register, same_size, times, whole, with_form, written}
+use Rattle.jump_tables.specs.Forms.{Index, Known, entry_of, form_after, memory_table, moved_form, reads_again, same_operand, same_register, same_size, times, whole, written}
 use Rattle.jump_tables.specs.declared.forms.Form.{Form}
 use Rattle.jump_tables.specs.declared.forms.Form.TheVariants as form
 use Rattle.window_steps.specs.Knowledge.{Holds, Says, value_in}
 use Rattle.window_steps.proofs.Forms.{plus_same, plus_says, same_is, times_same, times_says}
-use Rattle.window_steps.proofs.Operands.{Keeps, address_says, entry_says, with_regs}
+use Rattle.window_steps.proofs.Operands.{Keeps, address_says, entry_says}
 use Rattle.window_steps.proofs.Registers.{part_other, reg_same}
 
 -- ---- words

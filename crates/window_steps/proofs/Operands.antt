@@ -1,6 +1,5 @@
 -- Values of operands: which registers they read, and what forms say of the addresses and words of memory.
-use Rattle.std.proofs.Common.{◌≡◌, ℕ, ◌+◌, ◌*◌, ◌%◌, ◌^◌, ◌<◌, Bool, true, false, nat_eq, nat_lt, if◌then◌else◌, Option, Some, None, refl, sym, ap, ◌∙◌, subst, arith}
-use Rattle.std.specs.Prelude.{◌&&◌, ◌||◌, IsTrue}
+use Rattle.std.proofs.Common.{◌≡◌, ℕ, ◌+◌, ◌*◌, ◌%◌, ◌^◌, ◌<◌, Bool, true, false, nat_eq, if◌then◌else◌, Option, Some, None, refl, sym, ap, ◌∙◌, arith}
 use Rattle.std.proofs.lemmas.Bool.{and_parts, or_parts, ltb-true, eqb-false, ne_eqb}
 use Rattle.dream_words.specs.declared.machine.Regs.{Regs}
 use Rattle.dream_words.specs.declared.machine.Flags.{Flags}
@@ -16,9 +15,7 @@ use Rattle.x86_inst.specs.declared.Operand.TheVariants as o
 use Rattle.x86_formed.specs.Formed.{is_formed_mem, is_register_or_none}
 use Rattle.x86_model.specs.Machine.{State}
 use Rattle.x86_model.specs.Operands.{address_of, base_of, bits_of, reg_or_zero, width_of}
-use Rattle.jump_tables.specs.Forms.{Forms, address_form, both, entry_of, form_or_zero, is_part_of, is_plain, memory_table, plus, same_register, table_at, times, whole}
-use Rattle.jump_tables.specs.declared.forms.Form.{Form}
-use Rattle.jump_tables.specs.declared.forms.Form.TheVariants as form
+use Rattle.jump_tables.specs.Forms.{Forms, address_form, both, entry_of, form_or_zero, is_part_of, is_plain, memory_table, same_register, table_at, times, whole}
 use Rattle.window_steps.specs.Knowledge.{Says, value_in}
 use Rattle.window_steps.proofs.Forms.{both_says, plus_same, plus_says, table_says, times_says}
 use Rattle.window_steps.proofs.Registers.{part_same}

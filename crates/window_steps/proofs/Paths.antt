@@ -1,8 +1,8 @@
 -- A step along the path of a window: what is known after it holds of the state after it.
-use Rattle.std.proofs.Common.{◌≡◌, ℕ, ◌+◌, ◌%◌, ◌^◌, ◌<◌, Bool, true, false, nat_eq, if◌then◌else◌, List, take, Option, Some, None, refl, sym, ap, ◌∙◌, subst, arith}
+use Rattle.std.proofs.Common.{◌≡◌, ℕ, ◌%◌, ◌<◌, Bool, true, false, nat_eq, if◌then◌else◌, List, take, Option, Some, None, refl, sym, ap, ◌∙◌, subst, arith}
 use Rattle.std.specs.Prelude.{◌&&◌, ◌||◌, not, ◌==◌}
 use Rattle.std.proofs.lemmas.Bool.Decides.{nat_tests}
-use Rattle.std.proofs.lemmas.Bool.{and_parts, not-true, eqb-true, eqb-false, ltb-true}
+use Rattle.std.proofs.lemmas.Bool.{and_parts, not-true, eqb-true, ltb-true}
 use Rattle.elf_image.specs.declared.image.Segment.{Segment}
 use Rattle.elf_image.specs.declared.range.Range.{Range}
 use Rattle.elf_image.specs.Range.{bytes_to_end}
@@ -28,10 +28,9 @@ use Rattle.machine.specs.Code.{BeginsAt, Decodes}
 use Rattle.machine.specs.Run.{step_at}
 use Rattle.jump_tables.specs.Forms.{Index, Known, after, form_after, is_on_path, is_part_of, same_register, with_form, written}
 use Rattle.jump_tables.specs.Window.{next_of}
-use Rattle.jump_tables.specs.declared.forms.Form.{Form}
 use Rattle.window_steps.specs.Knowledge.{Holds, Says}
 use Rattle.window_steps.proofs.Moves.{RegsFit, Sets, add_sets, lea_sets, mov_sets, movzx_sets, shl_sets}
-use Rattle.window_steps.proofs.Operands.{Keeps, value_stays, with_regs}
+use Rattle.window_steps.proofs.Operands.{value_stays, with_regs}
 use Rattle.window_steps.proofs.Quiet.{does_next, scene, step_next}
 
 -- ---- which instructions these are

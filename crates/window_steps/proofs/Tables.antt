@@ -1,6 +1,6 @@
 -- The jump at the end of a window goes to the word of its table.
-use Rattle.std.proofs.Common.{◌≡◌, ℕ, ◌+◌, ◌*◌, ◌%◌, ◌^◌, ◌<◌, Bool, true, false, nat_eq, if◌then◌else◌, List, Option, Some, None, refl, sym, ap, ◌∙◌, subst, arith}
-use Rattle.std.specs.Prelude.{unwrap_or, ◌&&◌}
+use Rattle.std.proofs.Common.{◌≡◌, ℕ, ◌+◌, ◌*◌, ◌%◌, ◌^◌, ◌<◌, true, false, nat_eq, if◌then◌else◌, List, Option, Some, None, refl, sym, ap, ◌∙◌, subst, arith}
+use Rattle.std.specs.Prelude.{unwrap_or}
 use Rattle.std.proofs.Math.Nat.{mod-eq_of_lt}
 use Rattle.std.proofs.lemmas.Bool.{ltb-true}
 use Rattle.elf_image.specs.declared.image.Segment.{Segment}
@@ -10,7 +10,6 @@ use Rattle.dream_words.specs.declared.outcome.Start.{Start}
 use Rattle.dream_words.specs.Memory.{Mem, byte_at, load}
 use Rattle.dream_words.specs.Ranges.{AreBytes}
 use Rattle.dream_words.specs.Registers.{reg_of}
-use Rattle.dream_words.specs.Words.{low_part}
 use Rattle.x86_inst.specs.declared.Inst.{Inst}
 use Rattle.x86_inst.specs.declared.Inst.TheVariants as i
 use Rattle.x86_inst.specs.declared.Mem.{Mem as Address}
@@ -19,7 +18,7 @@ use Rattle.x86_inst.specs.declared.Operand.TheVariants as o
 use Rattle.x86_inst.specs.declared.Seg.{Seg}
 use Rattle.x86_inst.specs.declared.Seg.TheVariants as seg
 use Rattle.x86_inst.specs.declared.Size.TheVariants.{W}
-use Rattle.x86_formed.specs.Formed.{is_formed, is_formed_operand}
+use Rattle.x86_formed.specs.Formed.{is_formed_operand}
 use Rattle.x86_model.specs.declared.effect.Effect.{Effect}
 use Rattle.x86_model.specs.declared.effect.Go.TheVariants as go
 use Rattle.x86_model.specs.Effects.{goes}
@@ -30,12 +29,11 @@ use Rattle.x86_model.specs.Rows.{is_bare}
 use Rattle.machine.specs.Code.{BeginsAt, Decodes}
 use Rattle.machine.specs.Run.{step_at}
 use Rattle.jump_tables.specs.Forms.{Forms, Index, Known, memory_table, table_of}
-use Rattle.jump_tables.specs.Window.{frozen_at, frozen_word, target_of}
+use Rattle.jump_tables.specs.Window.{frozen_at, frozen_word}
 use Rattle.jump_tables.specs.declared.forms.Form.{Form}
 use Rattle.jump_tables.specs.declared.forms.Form.TheVariants as form
-use Rattle.jump_tables.specs.declared.table.TableWindow.{TableWindow}
 use Rattle.window_steps.specs.Knowledge.{Holds, Says, value_in}
-use Rattle.window_steps.proofs.Moves.{RegsFit, word_fits}
+use Rattle.window_steps.proofs.Moves.{word_fits}
 use Rattle.window_steps.proofs.Operands.{table_address, with_regs}
 use Rattle.window_steps.proofs.Paths.{begins_formed}
 use Rattle.window_steps.proofs.Quiet.{scene, step_to}

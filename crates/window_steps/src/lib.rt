@@ -1,4 +1,4 @@
 //! The steps of the machine at a window.
 //! Given are a window, a state, and the value of the index in it.
-//! Promised, as a law: where the index is too great they lead to the default, and else to its target.
+//! Promised, as lemmas: where the index is too great they lead to the default, and else to its target.
 #![tactic(auto)]
