@@ -6,6 +6,7 @@ use crate::{Status, dream};
 use dream_outside::{Failed, Files, MemFile, MemFiles, MemSink};
 use elf_image::{ElfFault, Range};
 use flow_graph::{Cause, Place};
+use generators::make_drill;
 use std::alloc::Global;
 use std::test::Fail;
 
@@ -702,6 +703,7 @@ fn tells_of_drills(rt: HostRuntime) -> Result<(), Fail> {
     );
     assert!(rt; ran.out.bytes().ends_with(b"\n"));
     assert_eq!(rt; ran.notes.bytes().len(), 0);
+    assert_eq!(rt; make_drill(alloc, 500)?.len(), 10_888);
     Ok(())
 }
 
