@@ -256,7 +256,7 @@ known_if true a b h k = h
 known_if false a b h k = k
 
 -- what holds of all tokens of a list
-abbrev AreTokens : List Token → Type 0
+abbrev pub AreTokens : List Token → Type 0
 AreTokens [] = Unit {0}
 AreTokens (x ∷ xs) = IsToken x × AreTokens xs
 

@@ -5,10 +5,12 @@
 #![tactic(auto)]
 
 mod bytes;
+mod laws;
 mod numbers;
 mod scan;
 mod spelled;
 mod token;
 
+pub use laws::{function_tokens, one_spelling};
 pub use scan::{Lexeme, next_lexeme};
 pub use token::token_of;
