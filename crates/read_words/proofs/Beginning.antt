@@ -1,37 +1,25 @@
 -- The first token of what is wanted, and the tokens after it.
-use Rattle.std.proofs.Common.{◌≡◌, ◌⊎◌, inl, inr, ℕ, ◌+◌, ◌-◌, ◌^◌, ◌<◌, ◌≤◌, Bool, true, false, ◌&&◌, List, [], ◌∷◌, refl, sym, ap, ◌∙◌, subst, arith}
-use Rattle.c_syntax.specs.declared.syntax.CExpr as e
+use Rattle.std.proofs.Common.{◌≡◌, inl, inr, ℕ, ◌-◌, ◌≤◌, true, List, [], ◌∷◌, refl, sym, ap, ◌∙◌, subst, arith}
 use Rattle.c_syntax.specs.declared.syntax.CExpr.{CExpr, CExpr-F, roll-CExpr}
-use Rattle.c_syntax.specs.declared.syntax.CCond as c
 use Rattle.c_syntax.specs.declared.syntax.CCond.{CCond, CCond-F, roll-CCond}
-use Rattle.c_syntax.specs.declared.syntax.CBin.{CBin}
-use Rattle.c_syntax.specs.declared.syntax.CCmp.{CCmp}
 use Rattle.c_syntax.specs.declared.syntax.CFn1.{CFn1}
 use Rattle.c_syntax.specs.declared.syntax.CFn2.{CFn2}
 use Rattle.c_syntax.specs.declared.syntax.CFn3.{CFn3}
-use Rattle.dream_words.specs.declared.machine.Name.{Name}
 use Rattle.c_syntax.specs.declared.token.Token.{Token}
 use Rattle.c_syntax.specs.declared.token.Token.TheVariants as tok
 use Rattle.read_words.specs.declared.open.Locals.{Locals}
-use Rattle.read_words.specs.declared.open.Item.{Item}
 use Rattle.read_words.specs.declared.open.Item.TheVariants as item
 use Rattle.read_words.specs.declared.open.Wanted.{Wanted}
 use Rattle.read_words.specs.declared.open.Wanted.TheVariants as want
 use Rattle.read_words.specs.declared.open.Call.{Call}
 use Rattle.read_words.specs.declared.open.Call.TheVariants as call
-use Rattle.read_words.specs.declared.open.Open.{Open}
-use Rattle.read_words.specs.declared.open.Open.TheVariants as open'
-use Rattle.read_words.specs.declared.open.State.{State}
-use Rattle.read_words.specs.declared.open.State.TheVariants as state
-use Rattle.read_words.specs.declared.open.Turn.{Turn}
 use Rattle.c_syntax.specs.Tokens.{word_tokens, cond_tokens}
 use Rattle.c_syntax.specs.Formed.{is_declared}
 use Rattle.c_syntax.proofs.Layers.{word_tokens_layer, cond_tokens_layer}
 use Rattle.c_syntax.proofs.Induct.{WordCases, every_word, every_cond}
 use Rattle.c_lex.specs.Lexemes.{IsToken}
 use Rattle.read_words.specs.Turns.{scope, takes_word, takes_cond, argument}
-use Rattle.read_words.specs.Rests.{Rest, Fits, FitsWord, FitsCond, Follows, Wants, After, InParens, WordSign, CondSign, item_tokens}
-use Rattle.read_words.specs.Reads.{HasDepth}
+use Rattle.read_words.specs.Rests.{Rest, FitsWord, FitsCond, Follows, Wants, After, InParens, WordSign, CondSign}
 use Rattle.read_words.proofs.Fitting.{num_fits, name_fits, name_declared, not_word_parts, not_word_fits, bin_parts, bin_fits, fn1_parts, fn1_fits, fn2_parts, fn2_fits, fn3_parts, fn3_fits, pick_parts, pick_fits, cmp_parts, cmp_fits, not_cond_parts, not_cond_fits, and_parts, and_fits, or_parts, or_fits}
 
 -- equal lists have equal first members and equal rests

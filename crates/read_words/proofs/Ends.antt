@@ -1,15 +1,7 @@
 -- What was read can be completed, and what isn't whole doesn't end.
-use Rattle.std.proofs.Common.{◌≡◌, ◌⊎◌, inl, inr, ℕ, ◌+◌, ◌-◌, ◌^◌, ◌<◌, ◌≤◌, Bool, true, false, List, [], ◌∷◌, Option, Some, None, refl, sym, ap, ◌∙◌, subst, arith}
-use Rattle.c_syntax.specs.declared.syntax.CExpr as e
+use Rattle.std.proofs.Common.{◌≡◌, inl, inr, ℕ, ◌-◌, ◌≤◌, true, List, [], ◌∷◌, refl, sym, ap, ◌∙◌, subst, arith}
 use Rattle.c_syntax.specs.declared.syntax.CExpr.{CExpr, CExpr-F, roll-CExpr}
-use Rattle.c_syntax.specs.declared.syntax.CCond as c
 use Rattle.c_syntax.specs.declared.syntax.CCond.{CCond, CCond-F, roll-CCond}
-use Rattle.c_syntax.specs.declared.syntax.CBin.{CBin}
-use Rattle.c_syntax.specs.declared.syntax.CCmp.{CCmp}
-use Rattle.c_syntax.specs.declared.syntax.CFn1.{CFn1}
-use Rattle.c_syntax.specs.declared.syntax.CFn2.{CFn2}
-use Rattle.c_syntax.specs.declared.syntax.CFn3.{CFn3}
-use Rattle.dream_words.specs.declared.machine.Name.{Name}
 use Rattle.c_syntax.specs.declared.token.Token.{Token}
 use Rattle.c_syntax.specs.declared.token.Token.TheVariants as tok
 use Rattle.read_words.specs.declared.open.Locals.{Locals}
@@ -23,14 +15,12 @@ use Rattle.read_words.specs.declared.open.Open.{Open}
 use Rattle.read_words.specs.declared.open.Open.TheVariants as open'
 use Rattle.read_words.specs.declared.open.State.{State}
 use Rattle.read_words.specs.declared.open.State.TheVariants as state
-use Rattle.read_words.specs.declared.open.Turn.{Turn}
 use Rattle.c_syntax.specs.declared.syntax.CCmp.TheVariants as cmp
 use Rattle.c_syntax.specs.declared.syntax.CBin.TheVariants as bin
 use Rattle.c_syntax.specs.Tokens.{word_tokens, cond_tokens}
-use Rattle.c_syntax.specs.Depth.{word_depth, cond_depth}
 use Rattle.c_syntax.proofs.Layers.{word_tokens_layer, cond_tokens_layer}
 use Rattle.c_syntax.proofs.Induct.{WordCases, every_word, every_cond}
-use Rattle.read_words.specs.Turns.{Reading, scope, takes_word, takes_cond, argument, depth_left}
+use Rattle.read_words.specs.Turns.{Reading, takes_word, takes_cond, depth_left}
 use Rattle.read_words.specs.Rests.{Rest, Fits, FitsWord, FitsCond, Follows, Wants, After, InParens, Sign, StateRest, Rests, GoesOn, item_tokens}
 use Rattle.read_words.specs.Reads.{HasDepth, OpenFits, StateFits, OpenFit, wanted, wanted_in, IsRead, IsOpen, Ends, CanGoOn, NotTheEnd, FromTheStart}
 use Rattle.read_words.proofs.Fitting.{word_least, cond_least, num_fits, not_word_fits, bin_fits, fn1_fits, fn2_fits, fn3_fits, pick_fits, cmp_fits, not_cond_fits, and_fits, or_fits}

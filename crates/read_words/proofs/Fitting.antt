@@ -1,5 +1,5 @@
 -- The parts of a Word or Cond that fits fit one level deeper, and parts that do make a whole that fits.
-use Rattle.std.proofs.Common.{◌≡◌, ℕ, ◌+◌, ◌-◌, ◌^◌, ◌<◌, ◌≤◌, max, Bool, true, false, ◌&&◌, refl, sym, ap, ◌∙◌, subst, arith}
+use Rattle.std.proofs.Common.{◌≡◌, ℕ, ◌+◌, ◌-◌, ◌^◌, ◌<◌, ◌≤◌, max, Bool, true, false, ◌&&◌, refl, sym, ◌∙◌, subst, arith}
 use borrow.Author.Tests.{lt-ltb}
 use Rattle.c_syntax.specs.declared.syntax.CExpr as e
 use Rattle.c_syntax.specs.declared.syntax.CExpr.{CExpr, CExpr-F, roll-CExpr}

@@ -3,3 +3,4 @@ pub mod Beginning
 pub mod Turning
 pub mod Steps
 pub mod Ends
+pub mod Depths

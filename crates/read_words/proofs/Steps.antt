@@ -1,38 +1,17 @@
 -- The laws on the reading of a token, over all that is open.
-use Rattle.std.proofs.Common.{◌≡◌, inl, inr, ℕ, ◌+◌, ◌-◌, ◌^◌, ◌<◌, ◌≤◌, Bool, true, false, List, [], ◌∷◌, Option, Some, None, refl, sym, ap, ◌∙◌, subst, arith}
-use Rattle.c_syntax.specs.declared.syntax.CExpr as e
-use Rattle.c_syntax.specs.declared.syntax.CExpr.{CExpr, CExpr-F, roll-CExpr}
-use Rattle.c_syntax.specs.declared.syntax.CCond as c
-use Rattle.c_syntax.specs.declared.syntax.CCond.{CCond, CCond-F, roll-CCond}
-use Rattle.c_syntax.specs.declared.syntax.CBin.{CBin}
-use Rattle.c_syntax.specs.declared.syntax.CCmp.{CCmp}
-use Rattle.c_syntax.specs.declared.syntax.CFn1.{CFn1}
-use Rattle.c_syntax.specs.declared.syntax.CFn2.{CFn2}
-use Rattle.c_syntax.specs.declared.syntax.CFn3.{CFn3}
-use Rattle.dream_words.specs.declared.machine.Name.{Name}
+use Rattle.std.proofs.Common.{List, [], ◌∷◌, Option, Some, None, sym, subst}
 use Rattle.c_syntax.specs.declared.token.Token.{Token}
-use Rattle.c_syntax.specs.declared.token.Token.TheVariants as tok
 use Rattle.read_words.specs.declared.open.Locals.{Locals}
-use Rattle.read_words.specs.declared.open.Item.{Item}
-use Rattle.read_words.specs.declared.open.Item.TheVariants as item
 use Rattle.read_words.specs.declared.open.Wanted.{Wanted}
-use Rattle.read_words.specs.declared.open.Wanted.TheVariants as want
-use Rattle.read_words.specs.declared.open.Call.{Call}
-use Rattle.read_words.specs.declared.open.Call.TheVariants as call
 use Rattle.read_words.specs.declared.open.Open.{Open}
-use Rattle.read_words.specs.declared.open.Open.TheVariants as open'
 use Rattle.read_words.specs.declared.open.State.{State}
 use Rattle.read_words.specs.declared.open.State.TheVariants as state
 use Rattle.read_words.specs.declared.open.Turn.{Turn}
-use Rattle.c_syntax.specs.declared.syntax.CCmp.TheVariants as cmp
-use Rattle.c_syntax.specs.Tokens.{word_tokens, cond_tokens}
-use Rattle.c_syntax.specs.Depth.{word_depth, cond_depth}
 use Rattle.c_lex.specs.Lexemes.{IsToken}
-use Rattle.read_words.specs.Turns.{Reading, scope, takes_word, takes_cond, argument, begin, paren, called, after, staying, turn, turned, pushed, depth_left, step_of}
-use Rattle.read_words.specs.Rests.{Rest, Fits, FitsWord, FitsCond, Follows, Wants, After, InParens, StateRest, Rests, GoesOn, item_tokens}
-use Rattle.read_words.specs.Reads.{HasDepth, OpenFits, StateFits, OpenFit, wanted, wanted_in, IsRead, IsOpen, IsStep, Ends, OneToken, CanGoOn, NotTheEnd, FromTheStart}
-use Rattle.read_words.proofs.Fitting.{word_least, cond_least, num_fits, not_word_fits, bin_fits, fn1_fits, fn2_fits, fn3_fits, pick_fits, cmp_fits, not_cond_fits, and_fits, or_fits}
-use Rattle.read_words.proofs.Turning.{IsTurn, TurnFits, TurnRest, IsBegin, begin_is, staying_is, paren_is, called_is, after_is}
+use Rattle.read_words.specs.Turns.{begin, paren, called, after, staying, turned, pushed, depth_left, step_of}
+use Rattle.read_words.specs.Rests.{Rest, Wants, After, InParens, StateRest, Rests, GoesOn}
+use Rattle.read_words.specs.Reads.{StateFits, OpenFit, wanted, IsOpen, IsStep, Ends, OneToken}
+use Rattle.read_words.proofs.Turning.{IsTurn, TurnFits, TurnRest, begin_is, staying_is, paren_is, called_is, after_is}
 
 module _ (l : Locals) (w : Wanted) (k : Rest) where
   -- a turn of the innermost part is a step of all that was read

@@ -1,16 +1,8 @@
 -- Each token is read exactly: what was read goes on with it where it isn't refused, and then with the same tokens.
-use Rattle.std.proofs.Common.{◌≡◌, ◌⊎◌, inl, inr, ℕ, ◌+◌, ◌-◌, ◌^◌, ◌<◌, ◌≤◌, Bool, true, false, ◌&&◌, nat_le, List, [], ◌∷◌, Option, Some, None, if◌then◌else◌, refl, sym, ap, ◌∙◌, subst, arith}
+use Rattle.std.proofs.Common.{◌≡◌, inl, inr, ℕ, ◌-◌, ◌≤◌, Bool, true, false, ◌&&◌, nat_le, List, ◌∷◌, Option, Some, None, if◌then◌else◌, refl, sym, subst, arith}
 use borrow.Author.Tests.{leb-true, le-leb}
-use Rattle.c_syntax.specs.declared.syntax.CExpr as e
 use Rattle.c_syntax.specs.declared.syntax.CExpr.{CExpr, CExpr-F, roll-CExpr}
-use Rattle.c_syntax.specs.declared.syntax.CCond as c
 use Rattle.c_syntax.specs.declared.syntax.CCond.{CCond, CCond-F, roll-CCond}
-use Rattle.c_syntax.specs.declared.syntax.CBin.{CBin}
-use Rattle.c_syntax.specs.declared.syntax.CCmp.{CCmp}
-use Rattle.c_syntax.specs.declared.syntax.CFn1.{CFn1}
-use Rattle.c_syntax.specs.declared.syntax.CFn2.{CFn2}
-use Rattle.c_syntax.specs.declared.syntax.CFn3.{CFn3}
-use Rattle.dream_words.specs.declared.machine.Name.{Name}
 use Rattle.c_syntax.specs.declared.token.Token.{Token}
 use Rattle.c_syntax.specs.declared.token.Token.TheVariants as tok
 use Rattle.read_words.specs.declared.open.Locals.{Locals}
@@ -28,11 +20,11 @@ use Rattle.read_words.specs.declared.open.Turn.{Turn}
 use Rattle.c_syntax.specs.Depth.{cond_depth}
 use Rattle.c_syntax.specs.Formed.{is_declared}
 use Rattle.c_lex.specs.Lexemes.{IsToken}
-use Rattle.read_words.specs.Turns.{scope, takes_word, takes_cond, argument, stays, opens, begin, first, paren, called, at_close, at_comma, at_colon, word_sign, cond_sign, after_word, after_cond, after, staying, turn}
-use Rattle.read_words.specs.Rests.{Rest, Fits, FitsWord, FitsCond, Follows, Wants, After, InParens, WordSign, CondSign, StateRest, item_tokens}
+use Rattle.read_words.specs.Turns.{scope, takes_word, takes_cond, argument, opens, begin, first, paren, called, at_close, at_comma, at_colon, word_sign, cond_sign, after_word, after_cond, after, staying}
+use Rattle.read_words.specs.Rests.{Rest, Fits, FitsWord, FitsCond, Follows, Wants, After, InParens, WordSign, CondSign, StateRest}
 use Rattle.read_words.specs.Reads.{HasDepth, OpenFits, StateFits, wanted_in}
 use Rattle.read_words.proofs.Fitting.{both_true, two_true, word_least, cond_least, num_fits, name_fits, not_word_fits, bin_fits, fn1_fits, fn2_fits, fn3_fits, pick_fits, cmp_fits, not_cond_fits, and_fits, or_fits}
-use Rattle.read_words.proofs.Beginning.{Starts, Calls, wants_start, start_wants, head_of, tail_of}
+use Rattle.read_words.proofs.Beginning.{Calls, wants_start, start_wants, head_of, tail_of}
 
 -- what a test can't be
 no_truth : {A : Type 0} (b : Bool) → b ≡ true → b ≡ false → A

@@ -160,6 +160,10 @@ pub record Reading : Type 0 where
   pub state : State
   pub open' : List Open
 
+-- a Word or Cond of which nothing has been read
+abbrev pub begun : Wanted → Reading
+begun w = record { state = state.Want w; open' = [] }
+
 -- the open parts with one more, if there is one
 abbrev pub pushed : Option Open → List Open → List Open
 pushed None os = os

@@ -5,7 +5,11 @@
 #![tactic(auto)]
 
 mod laws;
+mod locals;
 mod open;
+mod part;
+mod turns;
 
 pub use laws::{can_go_on, from_the_start, not_the_end, one_token};
 pub use open::{Call, Item, Locals, Open, State, Turn, Wanted};
+pub use part::Part;
