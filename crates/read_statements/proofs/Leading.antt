@@ -41,7 +41,7 @@ use Rattle.read_statements.specs.Turns.{wanted_for, Place, At, Inside, Body, bre
 use Rattle.read_statements.specs.Rests.{Then, StmtRest, BodyRest, FitsStmt, FitsStmts, values_of, Ending, TrapThen, Next, ElseThen, AfterElse, GroupsThen, ValuesThen, CaseThen, NestRest, NestThen, UseRest, UseThen, SourceThen, WhileThen, PlaceRest, Rests, BodyGoesOn, Ends, DeclsThen, AddressThen, GoesOn}
 use Rattle.read_statements.specs.Reads.{DoFits, SwitchFits, UseFits, NestFits, PointFits, PlaceFits, SomeFit, OpenFit, BodyFits, Bounds, HeadFits, HasLocal, CanGoOn}
 use Rattle.read_statements.proofs.Parts.{fits, arm_fits, arms_push}
-use Rattle.read_statements.proofs.Values.{free_word}
+use Rattle.read_statements.proofs.Different.{free_word}
 use Rattle.read_statements.proofs.Opening.{stmts_end, else_none, values_begin}
 use Rattle.read_statements.proofs.Steps.{part_read, nest_out, switch_fits, any_arm, shut_is}
 use Rattle.read_statements.proofs.States.{well_formed, local_bounds}

@@ -1,5 +1,5 @@
 pub mod Parts
-pub mod Values
+pub mod Different
 pub mod Opening
 pub mod Beginning
 pub mod Turning
@@ -7,3 +7,8 @@ pub mod Steps
 pub mod States
 pub mod Ends
 pub mod Leading
+pub mod Marked
+pub mod Reversed
+pub mod Refused
+pub mod Settling
+pub mod Declared

@@ -20,7 +20,7 @@ use Rattle.read_statements.specs.declared.open.Nest.TheVariants as nest
 use Rattle.read_statements.specs.Turns.{with_value}
 use Rattle.read_statements.specs.Rests.{Then, StmtRest, BodyRest, FitsStmt, FitsArm, FitsGroup, FitsStmts, FitsArms, FitsGroups, FitsLast, last_tokens, values_of, StmtsThen, Next, ElseThen, AfterElse, GroupsThen, GroupRest, with_values, ValuesThen, CaseThen, NestThen}
 use Rattle.read_statements.proofs.Parts.{arm_rolled, arm_parts, arm_fits, group_rolled, group_parts, group_fits, group_values_are}
-use Rattle.read_statements.proofs.Values.{distinct_front, distinct_fresh}
+use Rattle.read_statements.proofs.Different.{distinct_front, distinct_fresh}
 
 -- a statement, and then tokens that may follow it
 abbrev pub OneStmt : Locals → Bool → ℕ → StmtRest → Then

@@ -34,7 +34,7 @@ use Rattle.read_statements.specs.Turns.{turn, after_part, wanted_for, Place, At,
 use Rattle.read_statements.specs.Rests.{Then, StmtRest, BodyRest, FitsStmt, FitsStmts, values_of, StmtsThen, Next, ElseThen, AfterElse, NestRest, NestThen, UseRest, UseThen, SourceThen, WhileThen, PointRest, Rests, BodyGoesOn}
 use Rattle.read_statements.specs.Reads.{SwitchFits, UseFits, NestFits, PointFits, PlaceFits, SomeFit, OpenFit, BodyFits}
 use Rattle.read_statements.proofs.Parts.{fits, arm_fits, group_fits, group_values_are, stmts_push, arms_push, groups_push}
-use Rattle.read_statements.proofs.Values.{values_push, words_back}
+use Rattle.read_statements.proofs.Different.{values_push, words_back}
 use Rattle.read_statements.proofs.Opening.{else_open, else_none}
 use Rattle.read_statements.proofs.Turning.{IsSettled, IsTurn, turn_is, after_part_is}
 

@@ -35,7 +35,7 @@ use Rattle.read_statements.specs.Turns.{is_mark, expect, at_stmt, at_load, trap_
 use Rattle.read_statements.specs.Rests.{Then, BodyRest, FitsStmt, StmtsThen, Next, ElseThen, AfterElse, GroupsThen, ValuesThen, CaseThen, NestThen, UseRest, UseThen, SourceThen, TrapThen, WhileThen, PointRest}
 use Rattle.read_statements.specs.Reads.{SwitchFits, DefaultFits, UseFits, NestFits, PointFits, SomeFit}
 use Rattle.read_statements.proofs.Parts.{fits}
-use Rattle.read_statements.proofs.Values.{not_false, not_true, distinct_push, words_push, has_room_for}
+use Rattle.read_statements.proofs.Different.{not_false, not_true, distinct_push, words_push, has_room_for}
 use Rattle.read_statements.proofs.Opening.{OneStmt, stmts_open, stmts_end, stmts_more, else_open, else_more, values_open, values_begin, values_more, groups_open, groups_default, groups_more}
 use Rattle.read_statements.proofs.Beginning.{Starts, one_starts, starts_one}
 

@@ -1,3 +1,4 @@
 pub mod Turns
 pub mod Rests
 pub mod Reads
+pub mod Readers

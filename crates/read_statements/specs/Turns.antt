@@ -121,6 +121,10 @@ at_group s tok.Case = if has_room s then Some (turn'.To (point.CaseNumber s []))
 at_group s tok.Default = Some (turn'.To (point.DefaultColon s.word s.groups))
 at_group s _ = None
 
+-- different values with one more, unless it is there
+abbrev pub with_new : List ℕ → ℕ → List ℕ
+with_new vs v = if has vs v then vs else vs ++ v ∷ []
+
 -- a switch in which one more value stands
 abbrev pub with_value : Switching → ℕ → Switching
 with_value s v = record { word = s.word; groups = s.groups; used = s.used ++ v ∷ [] }

@@ -4,8 +4,16 @@
 //! before can always be completed.
 #![tactic(auto)]
 
+mod body;
 mod laws;
+mod marks;
 mod open;
+mod reader;
+mod turns;
+mod values;
 
+pub use body::{Body, Outcome, Place};
 pub use laws::{at_the_end, can_go_on, from_the_start, one_token};
 pub use open::{Decl, Head, Mark, Nest, Open, Point, Switching, Turn, Use};
+pub use reader::Reader;
+pub use values::Values;

@@ -1,5 +1,6 @@
 //! What has been read of a function.
 
+use crate::values::Values;
 use c_syntax::{CArm, CCond, CExpr, CGroup, CStmt};
 use dream_words::{Name, Width};
 use sqlite_items::Items;
@@ -83,7 +84,7 @@ pub enum Use {
 pub struct Switching {
     pub word: CExpr,
     pub groups: Items<CGroup>,
-    pub used: Items<u32>,
+    pub used: Values,
 }
 
 /// What a Body is the Body of.

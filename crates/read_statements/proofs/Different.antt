@@ -115,7 +115,7 @@ all_distinct (x ∷ xs) h =
     let p = both_true (not (has xs x)) (are_distinct xs) h in
     IsDistinct-cons eqb x xs (apart_all xs x (not_false (has xs x) p.0)) (all_distinct xs p.1)
 
-any_is : (xs : List ℕ) (q : ℕ) → list_any (eqb q) xs ≡ has xs q
+pub any_is : (xs : List ℕ) (q : ℕ) → list_any (eqb q) xs ≡ has xs q
 any_is [] q = refl
 any_is (y ∷ ys) q = step (eqb q y) (list_any (eqb q) ys) (has ys q) (any_is ys q)
   where
