@@ -1,5 +1,5 @@
 -- Each answer excludes the causes of the others.
-use Rattle.std.proofs.Common.{◌≡◌, ◌⊎◌, inl, inr, refl, sym, ap, subst, arith, ℕ, ◌<◌, ◌≤◌, List, length, Some, None, Ok, Err}
+use Rattle.std.proofs.Common.{◌≡◌, ◌⊎◌, inl, inr, refl, sym, ap, subst, ◌∙◌, arith, ℕ, ◌<◌, ◌≤◌, List, length, Some, None, Ok, Err}
 use Rattle.std.specs.Option.{IsSomeAnd}
 use Rattle.std.specs.Io.KnownBytes.{Appends}
 use Rattle.dream_outside.specs.Causes.{Store, Rose, IsUnheld, HoldsAt}
@@ -12,6 +12,11 @@ use Rattle.elf_symbols.specs.declared.find.FindFault.TheVariants as find
 use Rattle.elf_symbols.specs.Functions.{function_named}
 use Rattle.flow_graph.specs.declared.place.Place.{Place}
 use Rattle.flow_graph.proofs.OnePlaces.{one_place}
+use Rattle.c_syntax.specs.declared.syntax.CFun.{CFun}
+use Rattle.c_syntax.specs.Text.{canonical_text}
+use Rattle.c_syntax.specs.Stands.{StandsFor, OneFunction}
+use Rattle.c_read.specs.Refusals.{IsRefusedAt}
+use Rattle.c_read.specs.Answers.{OnePlace}
 use Rattle.flow_graph.specs.Place.{NamedPlace, NamedAfter, IsLeastPlace, HasNoPlace}
 use Rattle.dream_engine.specs.Agreement.{IsDecompiled}
 use Rattle.run_lines.specs.StartWords.{given_by}
@@ -19,8 +24,8 @@ use Rattle.drill_lines.specs.Lines.{IsDrillLine}
 use Rattle.dream_top.specs.Runs.{IsRunText}
 use Rattle.dream_top.specs.declared.status.Status.{Status}
 use Rattle.dream_top.specs.declared.status.Status.TheVariants.{Done, Usage, ReadFault, WriteFault, NoMemory, NotElf, NoFunction, Outside, FileTooLarge, NotProfile}
-use Rattle.dream_top.specs.CommandLine.{Func, Named, Target, Command, Decompile, Run, Drill, Prelude, function_of}
-use Rattle.dream_top.specs.Answers.{limit, Reading, Writing, Holds, IsReadFault, IsTooLarge, Loads, range_in, Finds, FindsNone, IsNotElf, IsNoFunction, LoadsFunction, StopsIn, Made, Makes, Answers, AnswersFunction, Writes, WritesMade}
+use Rattle.dream_top.specs.CommandLine.{Func, Named, Target, Command, Decompile, Run, Tidy, Drill, Prelude, function_of, path_of}
+use Rattle.dream_top.specs.Answers.{limit, Reading, Writing, Holds, IsReadFault, IsTooLarge, Loads, range_in, Finds, FindsNone, IsNotElf, IsNoFunction, LoadsFunction, StopsIn, Made, Makes, Takes, Tidies, IsNotProfile, Answers, AnswersFunction, AnswersTidy, Writes, WritesMade}
 use Rattle.dream_top.specs.Loading.{find_status}
 use Rattle.dream_top.specs.Header.{header_text}
 use Rattle.dream_top.specs.Laws.{HasNoFault, NoRefusalWithoutCause, EachCauseHasItsAnswer}
@@ -110,8 +115,21 @@ by_command : (C : Type 0) (c : Command) (s : Status) (i : Reading) (o : Writing)
 by_command C (Decompile form g) s i o f e a k = k (IsDecompiled form) (λ m r text d. d.is_function.no_place) (subst (AnswersFunction (IsDecompiled form) s i o) (same_some g f e) a)
 by_command C (Run g n words) s i o f e a k =
     k (IsRunText n (given_by words)) (λ m r text d. d.is_function.no_place) (subst (AnswersFunction (IsRunText n (given_by words)) s i o) (same_some g f e) a)
+by_command C (Tidy path) s i o f e a k = absurd cc
 by_command C (Drill n) s i o f e a k = absurd cc
 by_command C Prelude s i o f e a k = absurd cc
+
+same_path : (p q : List ℕ) → Some p ≡ Some q → p ≡ q
+same_path p q e = cc
+
+-- what follows from the answers about a function and from those about a text follows from those of a command that reads a file
+by_path : (C : Type 0) (c : Command) (s : Status) (i : Reading) (o : Writing) (path : List ℕ) → path_of c ≡ Some path → Answers s i o (Some c)
+    → ((P : Made) (f : Target) → f.path ≡ path → AnswersFunction P s i o f → C) → (AnswersTidy s i o path → C) → C
+by_path C (Decompile form g) s i o path e a k t = k (IsDecompiled form) g (same_path g.path path e) a
+by_path C (Run g n words) s i o path e a k t = k (IsRunText n (given_by words)) g (same_path g.path path e) a
+by_path C (Tidy p) s i o path e a k t = t (subst (λ q. AnswersTidy s i o q) (same_path p path e) a)
+by_path C (Drill n) s i o path e a k t = absurd cc
+by_path C Prelude s i o path e a k t = absurd cc
 
 -- ---- places
 
@@ -253,6 +271,88 @@ outside_or_memory P none i o c bytes m r p NoFunction at small found named quiet
 outside_or_memory P none i o c bytes m r p Usage at small found named quiet a = absurd a.0
 outside_or_memory P none i o c bytes m r p (NotProfile k) at small found named quiet a = absurd a.0
 
+-- ---- texts
+
+-- the bytes that were taken are those that are held
+taken_are : (i : Reading) (path held bytes : List ℕ) → HoldsAt i.held path held → Takes i path bytes → held ≡ bytes
+taken_are i path held bytes at t = (loaded_small i path held (λ all. all ≡ bytes) at t).1
+
+tidy_unheld : (i : Reading) (o : Writing) (path : List ℕ) (s : Status) → IsUnheld i.held path → AnswersTidy s i o path → (s ≡ ReadFault) ⊎ (s ≡ NoMemory)
+tidy_unheld i o path ReadFault un a = inl refl
+tidy_unheld i o path NoMemory un a = inr refl
+tidy_unheld i o path Done un a = absurd (none_held i.held path _ un a.1.takes.held)
+tidy_unheld i o path WriteFault un a = absurd (none_held i.held path _ un a.1.takes.held)
+tidy_unheld i o path FileTooLarge un a = absurd (none_held i.held path _ un a.0.held)
+tidy_unheld i o path (NotProfile k) un a = absurd (none_held i.held path _ un a.0.takes.held)
+tidy_unheld i o path (NotElf f) un a = absurd a.0
+tidy_unheld i o path NoFunction un a = absurd a.0
+tidy_unheld i o path (Outside p) un a = absurd a.0
+tidy_unheld i o path Usage un a = absurd a.0
+
+tidy_many : (i : Reading) (o : Writing) (path : List ℕ) (s : Status) → i.got ≤ limit → limit < i.got_now → AnswersTidy s i o path → (s ≡ FileTooLarge) ⊎ (s ≡ NoMemory)
+tidy_many i o path FileTooLarge few many a = inl refl
+tidy_many i o path NoMemory few many a = inr refl
+tidy_many i o path Done few many a = let small : i.got_now ≤ limit = a.1.takes.got in absurd (omega arith)
+tidy_many i o path WriteFault few many a = let small : i.got_now ≤ limit = a.1.takes.got in absurd (omega arith)
+tidy_many i o path ReadFault few many a = let same : i.got_now ≡ i.got = a.0.within many in absurd (omega arith)
+tidy_many i o path (NotProfile k) few many a = let small : i.got_now ≤ limit = a.0.takes.got in absurd (omega arith)
+tidy_many i o path (NotElf f) few many a = absurd a.0
+tidy_many i o path NoFunction few many a = absurd a.0
+tidy_many i o path (Outside p) few many a = absurd a.0
+tidy_many i o path Usage few many a = absurd a.0
+
+tidy_long : (i : Reading) (o : Writing) (path bytes : List ℕ) (s : Status) → HoldsAt i.held path bytes → limit < length bytes → (Rose i.faults i.faults_now → ⊥)
+    → AnswersTidy s i o path → (s ≡ FileTooLarge) ⊎ (s ≡ NoMemory)
+tidy_long i o path bytes FileTooLarge at long quiet a = inl refl
+tidy_long i o path bytes NoMemory at long quiet a = inr refl
+tidy_long i o path bytes Done at long quiet a = let small : length bytes ≤ limit = (loaded_small i path bytes _ at a.1.takes).0 in absurd (omega arith)
+tidy_long i o path bytes WriteFault at long quiet a = let small : length bytes ≤ limit = (loaded_small i path bytes _ at a.1.takes).0 in absurd (omega arith)
+tidy_long i o path bytes ReadFault at long quiet a = absurd (no_read_fault i path bytes at quiet a.0)
+tidy_long i o path bytes (NotProfile k) at long quiet a = let small : length bytes ≤ limit = (loaded_small i path bytes _ at a.0.takes).0 in absurd (omega arith)
+tidy_long i o path bytes (NotElf f) at long quiet a = absurd a.0
+tidy_long i o path bytes NoFunction at long quiet a = absurd a.0
+tidy_long i o path bytes (Outside p) at long quiet a = absurd a.0
+tidy_long i o path bytes Usage at long quiet a = absurd a.0
+
+-- what is held and stands for a function is read as that function
+same_function : OneFunction → (bytes held : List ℕ) (f g : CFun) → held ≡ bytes → StandsFor held f → StandsFor bytes g → g ≡ f
+same_function one_function bytes held f g e h b = one_function bytes g f b (subst (λ t. StandsFor t f) e h)
+
+tidy_done : OneFunction → (i : Reading) (o : Writing) (path bytes : List ℕ) (f : CFun) (s : Status) → HoldsAt i.held path bytes → length bytes ≤ limit → StandsFor bytes f → HasNoFault i o
+    → AnswersTidy s i o path → ((s ≡ Done) × Appends o.taken o.taken_now (canonical_text f)) ⊎ (s ≡ NoMemory)
+tidy_done one i o path bytes f Done at small stands quiet a =
+    let same = same_function one a.1.bytes bytes f a.1.f (taken_are i path bytes a.1.bytes at a.1.takes) stands a.1.stands in
+    let text : a.0 ≡ canonical_text f = a.1.canonical ∙ ap canonical_text same in
+    inl (refl, subst (λ t. Appends o.taken o.taken_now t) text a.2)
+tidy_done one i o path bytes f NoMemory at small stands quiet a = inr refl
+tidy_done one i o path bytes f WriteFault at small stands quiet a = absurd (quiet.out a.2.rose)
+tidy_done one i o path bytes f ReadFault at small stands quiet a = absurd (no_read_fault i path bytes at quiet.files a.0)
+tidy_done one i o path bytes f FileTooLarge at small stands quiet a = absurd (too_long i path bytes at small a.0)
+tidy_done one i o path bytes f (NotProfile k) at small stands quiet a =
+    absurd (a.0.refused.stands_for_none f (subst (λ t. StandsFor t f) (taken_are i path bytes a.0.bytes at a.0.takes) stands))
+tidy_done one i o path bytes f (NotElf g) at small stands quiet a = absurd a.0
+tidy_done one i o path bytes f NoFunction at small stands quiet a = absurd a.0
+tidy_done one i o path bytes f (Outside p) at small stands quiet a = absurd a.0
+tidy_done one i o path bytes f Usage at small stands quiet a = absurd a.0
+
+tidy_refused : OnePlace → (i : Reading) (o : Writing) (path bytes : List ℕ) (k : ℕ) (s : Status) → HoldsAt i.held path bytes → length bytes ≤ limit → IsRefusedAt bytes k
+    → (Rose i.faults i.faults_now → ⊥) → AnswersTidy s i o path → (s ≡ NotProfile k) ⊎ (s ≡ NoMemory)
+tidy_refused one i o path bytes k (NotProfile n) at small refused quiet a =
+    inl (ap NotProfile (one bytes n k (subst (λ t. IsRefusedAt t n) (sym (taken_are i path bytes a.0.bytes at a.0.takes)) a.0.refused) refused))
+tidy_refused one i o path bytes k NoMemory at small refused quiet a = inr refl
+tidy_refused one i o path bytes k Done at small refused quiet a =
+    absurd (refused.stands_for_none a.1.f (subst (λ t. StandsFor t a.1.f) (sym (taken_are i path bytes a.1.bytes at a.1.takes)) a.1.stands))
+tidy_refused one i o path bytes k WriteFault at small refused quiet a =
+    absurd (refused.stands_for_none a.1.f (subst (λ t. StandsFor t a.1.f) (sym (taken_are i path bytes a.1.bytes at a.1.takes)) a.1.stands))
+tidy_refused one i o path bytes k ReadFault at small refused quiet a = absurd (no_read_fault i path bytes at quiet a.0)
+tidy_refused one i o path bytes k FileTooLarge at small refused quiet a = absurd (too_long i path bytes at small a.0)
+tidy_refused one i o path bytes k (NotElf g) at small refused quiet a = absurd a.0
+tidy_refused one i o path bytes k NoFunction at small refused quiet a = absurd a.0
+tidy_refused one i o path bytes k (Outside p) at small refused quiet a = absurd a.0
+tidy_refused one i o path bytes k Usage at small refused quiet a = absurd a.0
+
+-- ---- texts that are known before
+
 -- a text that is known before is written, or a front of it is
 written : (s : Status) (o : Writing) (text : List ℕ) → Writes s o text
     → ((s ≡ Done) × Appends o.taken o.taken_now text) ⊎ ((s ≡ WriteFault) × StopsIn o text)
@@ -267,12 +367,15 @@ made_written P NoMemory o w = inr (inl refl)
 made_written P WriteFault o w = inr (inr (refl, w.2.rose))
 made_written P s o w = absurd w
 
-pub each_cause_has_its_answer : EachCauseHasItsAnswer
-each_cause_has_its_answer = record {
+pub each_cause_has_its_answer : OneFunction → OnePlace → EachCauseHasItsAnswer
+each_cause_has_its_answer one_function one_place = record {
   usage = λ i o s a. a.0;
-  unheld = λ i o c f s un e a. by_command ((s ≡ ReadFault) ⊎ (s ≡ NoMemory)) c s i o f e a (λ P none b. fault_or_memory P i o f s un b);
-  too_many = λ i o c f s few many e a. by_command ((s ≡ FileTooLarge) ⊎ (s ≡ NoMemory)) c s i o f e a (λ P none b. many_or_memory P i o f s few many b);
-  too_large = λ i o c f bytes s at long quiet e a. by_command ((s ≡ FileTooLarge) ⊎ (s ≡ NoMemory)) c s i o f e a (λ P none b. long_or_memory P i o f bytes s at long quiet b);
+  unheld = λ i o c path s un e a. by_path ((s ≡ ReadFault) ⊎ (s ≡ NoMemory)) c s i o path e a
+      (λ P f same b. fault_or_memory P i o f s (subst (λ p. IsUnheld i.held p) (sym same) un) b) (λ b. tidy_unheld i o path s un b);
+  too_many = λ i o c path s few many e a. by_path ((s ≡ FileTooLarge) ⊎ (s ≡ NoMemory)) c s i o path e a
+      (λ P f same b. many_or_memory P i o f s few many b) (λ b. tidy_many i o path s few many b);
+  too_large = λ i o c path bytes s at long quiet e a. by_path ((s ≡ FileTooLarge) ⊎ (s ≡ NoMemory)) c s i o path e a
+      (λ P f same b. long_or_memory P i o f bytes s (subst (λ p. HoldsAt i.held p bytes) (sym same) at) long quiet b) (λ b. tidy_long i o path bytes s at long quiet b);
   broken = λ i o c f bytes fault s at small image quiet e a.
       by_command ((s ≡ NotElf fault) ⊎ (s ≡ NoMemory)) c s i o f e a (λ P none b. broken_or_memory P i o f bytes fault s at small image quiet b);
   broken_sections = λ i o c f bytes m name fault s at small image named none quiet e a.
@@ -284,6 +387,8 @@ each_cause_has_its_answer = record {
   outside = λ words i o c f bytes m r p s accepted named quiet a.
       by_command ((s ≡ Outside p) ⊎ (s ≡ NoMemory)) c s i o f accepted.function (subst (λ asked. Answers s i o asked) accepted.command a)
       (λ P none b. outside_or_memory P none i o f bytes m r p s accepted.held accepted.small accepted.found named quiet b);
+  tidy = λ words i o path bytes f s asked at small stands quiet a. tidy_done one_function i o path bytes f s at small stands quiet (subst (λ c. Answers s i o c) asked a);
+  not_profile = λ words i o path bytes k s asked at small refused quiet a. tidy_refused one_place i o path bytes k s at small refused quiet (subst (λ c. Answers s i o c) asked a);
   drill = λ words i o n s asked a. made_written (IsDrillLine n) s o (subst (λ c. Answers s i o c) asked a).writes;
   prelude = λ i o s a. written s o header_text a.writes;
   prelude_done = λ i o s quiet a. elim (written s o header_text a.writes) [ inl done ↦ done.0 | inr stopped ↦ absurd (quiet stopped.1.rose) ];

@@ -10,11 +10,15 @@ use Rattle.elf_symbols.specs.declared.find.FindFault.{FindFault}
 use Rattle.elf_symbols.specs.declared.find.FindFault.TheVariants as find
 use Rattle.elf_symbols.specs.Functions.{function_named}
 use Rattle.flow_graph.specs.Place.{NamedPlace}
+use Rattle.c_syntax.specs.declared.syntax.CFun.{CFun}
+use Rattle.c_syntax.specs.Text.{canonical_text}
+use Rattle.c_syntax.specs.Stands.{StandsFor}
+use Rattle.c_read.specs.Refusals.{IsRefusedAt}
 use Rattle.elf_image.specs.declared.range.Range.{Range}
 use Rattle.dream_engine.specs.Agreement.{IsDecompiled}
 use Rattle.dream_top.specs.declared.status.Status.{Status}
 use Rattle.dream_top.specs.declared.status.Status.TheVariants.{Done, Usage, ReadFault, WriteFault, NoMemory, NotElf, NoFunction, Outside, FileTooLarge, NotProfile}
-use Rattle.dream_top.specs.CommandLine.{Func, At, Named, Target, Command, Decompile, Run, Drill, Prelude}
+use Rattle.dream_top.specs.CommandLine.{Func, At, Named, Target, Command, Decompile, Run, Tidy, Drill, Prelude}
 use Rattle.dream_top.specs.Runs.{IsRunText}
 use Rattle.run_lines.specs.StartWords.{given_by}
 use Rattle.drill_lines.specs.Lines.{IsDrillLine}
@@ -142,6 +146,39 @@ Refuses Usage i f = ⊥
 Refuses WriteFault i f = ⊥
 Refuses (NotProfile at) i f = ⊥
 
+-- ---- a text
+
+-- the file at the path was taken whole, within the limit, and these are its bytes
+abbrev pub Takes : Reading → List ℕ → List ℕ → Type 0
+Takes i path bytes = Loads i path (λ held. held ≡ bytes)
+
+-- the text at the path stands for a function, and this is the canonical text of that function
+pub record Tidies (i : Reading) (path text : List ℕ) : Type 0 where
+  pub bytes : List ℕ
+  pub f : CFun
+  pub takes : Takes i path bytes
+  pub stands : StandsFor bytes f
+  pub canonical : text ≡ canonical_text f
+
+-- the text at the path stands for no function, and is refused at this place
+pub record IsNotProfile (i : Reading) (path : List ℕ) (at : ℕ) : Type 0 where
+  pub bytes : List ℕ
+  pub takes : Takes i path bytes
+  pub refused : IsRefusedAt bytes at
+
+-- why a text is refused before anything is written
+abbrev pub RefusesText : Status → Reading → List ℕ → Type 0
+RefusesText ReadFault i path = IsReadFault i path
+RefusesText FileTooLarge i path = IsTooLarge i path
+RefusesText (NotProfile at) i path = IsNotProfile i path at
+RefusesText NoMemory i path = Unit {0}
+RefusesText Done i path = ⊥
+RefusesText Usage i path = ⊥
+RefusesText WriteFault i path = ⊥
+RefusesText (NotElf fault) i path = ⊥
+RefusesText NoFunction i path = ⊥
+RefusesText (Outside place) i path = ⊥
+
 -- ---- the answers
 
 -- What a status says where something is to be made of a function. The output grows by the whole text at Done, by a front of it
@@ -150,6 +187,13 @@ abbrev pub AnswersFunction : Made → Status → Reading → Writing → Target 
 AnswersFunction P Done i o f = (text : List ℕ) × Makes P i f text × Appends o.taken o.taken_now text
 AnswersFunction P WriteFault i o f = (text : List ℕ) × Makes P i f text × StopsIn o text
 AnswersFunction P s i o f = Refuses s i f × Keeps o.taken o.taken_now
+
+-- What a status says where a text is to be made canonical. The output grows by the whole canonical text at Done, by a front of
+-- it at WriteFault, and not at all otherwise.
+abbrev pub AnswersTidy : Status → Reading → Writing → List ℕ → Type 0
+AnswersTidy Done i o path = (text : List ℕ) × Tidies i path text × Appends o.taken o.taken_now text
+AnswersTidy WriteFault i o path = (text : List ℕ) × Tidies i path text × StopsIn o text
+AnswersTidy s i o path = RefusesText s i path × Keeps o.taken o.taken_now
 
 -- What a status says of a text that is known before: the output grows by the whole of it at Done and by a front of it at
 -- WriteFault. No other status comes.
@@ -183,5 +227,6 @@ abbrev pub Answers : Status → Reading → Writing → Option Command → Type 
 Answers s i o None = (s ≡ Usage) × Keeps o.taken o.taken_now
 Answers s i o (Some (Decompile form f)) = AnswersFunction (IsDecompiled form) s i o f
 Answers s i o (Some (Run f n words)) = AnswersFunction (IsRunText n (given_by words)) s i o f
+Answers s i o (Some (Tidy path)) = AnswersTidy s i o path
 Answers s i o (Some (Drill n)) = AnswersDrill n s i o
 Answers s i o (Some Prelude) = AnswersPrelude s i o

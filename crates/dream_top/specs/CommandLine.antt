@@ -67,11 +67,12 @@ pub record Target : Type 0 where
 abbrev pub target : List ℕ → Func → Target
 target path func = record { path = path; func = func }
 
--- what the words ask for: the C of a function in a form, its runs of so many steps from a start that words give, the line of
--- a drill of so many functions, or the header that each text includes
+-- what the words ask for: the C of a function in a form, its runs of so many steps from a start that words give, the canonical
+-- text of the text at a path, the line of a drill of so many functions, or the header that each text includes
 pub data Command : Type 0 where
   Decompile : Form → Target → Command
   Run : Target → ℕ → List (List ℕ) → Command
+  Tidy : List ℕ → Command
   Drill : ℕ → Command
   Prelude : Command
 
@@ -79,8 +80,17 @@ pub data Command : Type 0 where
 abbrev pub function_of : Command → Option Target
 function_of (Decompile form f) = Some f
 function_of (Run f n words) = Some f
+function_of (Tidy path) = None
 function_of (Drill n) = None
 function_of Prelude = None
+
+-- the path of the file that is read, if one is
+abbrev pub path_of : Command → Option (List ℕ)
+path_of (Decompile form f) = Some f.path
+path_of (Run f n words) = Some f.path
+path_of (Tidy path) = Some path
+path_of (Drill n) = None
+path_of Prelude = None
 
 -- what the program's FUNC says
 abbrev pub func_said : words_func.Func → Func
@@ -95,6 +105,7 @@ target_said t = target t.path.now (func_said t.func)
 abbrev pub asked_by : words.Command → Command
 asked_by (variant.Decompile form f) = Decompile form (target_said f)
 asked_by (variant.Run f n words) = Run (target_said f) n (map string_bytes words.now)
+asked_by (variant.Tidy path) = Tidy path.now
 asked_by (variant.Drill n) = Drill n
 asked_by variant.Prelude = Prelude
 
@@ -136,6 +147,16 @@ abbrev pub drill_asked : List (List ℕ) → Option Command
 drill_asked (name ∷ n ∷ []) = if bytes_eq name (codes "drill") then option_map (λ count. Drill count) (count_of 1 4000 n) else None
 drill_asked _ = None
 
+-- a text, where PATH isn't empty
+abbrev pub tidy_at : List ℕ → Option Command
+tidy_at [] = None
+tidy_at (b ∷ bs) = Some (Tidy (b ∷ bs))
+
+-- `tidy PATH`
+abbrev pub tidy_asked : List (List ℕ) → Option Command
+tidy_asked (name ∷ path ∷ []) = if bytes_eq name (codes "tidy") then tidy_at path else None
+tidy_asked _ = None
+
 -- a command, or else another
 abbrev pub or_else : Option Command → Option Command → Option Command
 or_else None c = c
@@ -148,4 +169,4 @@ is_prelude _ = false
 
 -- One of these; every other list of words is no command.
 abbrev pub command_of : List (List ℕ) → Option Command
-command_of words = if is_prelude words then Some Prelude else or_else (function_asked words) (or_else (run_asked words) (drill_asked words))
+command_of words = if is_prelude words then Some Prelude else or_else (function_asked words) (or_else (run_asked words) (or_else (tidy_asked words) (drill_asked words)))

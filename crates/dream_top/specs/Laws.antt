@@ -9,10 +9,14 @@ use Rattle.elf_image.specs.Image.{image_of}
 use Rattle.elf_symbols.specs.declared.find.FindFault.TheVariants as find
 use Rattle.elf_symbols.specs.Functions.{function_named}
 use Rattle.flow_graph.specs.declared.place.Place.{Place}
+use Rattle.c_syntax.specs.declared.syntax.CFun.{CFun}
+use Rattle.c_syntax.specs.Text.{canonical_text}
+use Rattle.c_syntax.specs.Stands.{StandsFor}
+use Rattle.c_read.specs.Refusals.{IsRefusedAt}
 use Rattle.flow_graph.specs.Place.{NamedPlace, HasNoPlace}
 use Rattle.dream_top.specs.declared.status.Status.{Status}
-use Rattle.dream_top.specs.declared.status.Status.TheVariants.{Done, Usage, ReadFault, WriteFault, NoMemory, NotElf, NoFunction, Outside, FileTooLarge}
-use Rattle.dream_top.specs.CommandLine.{Named, Target, Command, Drill, function_of, command_of}
+use Rattle.dream_top.specs.declared.status.Status.TheVariants.{Done, Usage, ReadFault, WriteFault, NoMemory, NotElf, NoFunction, Outside, FileTooLarge, NotProfile}
+use Rattle.dream_top.specs.CommandLine.{Named, Target, Command, Tidy, Drill, function_of, path_of, command_of}
 use Rattle.dream_top.specs.Answers.{limit, Reading, Writing, Finds, StopsIn, Answers}
 use Rattle.dream_top.specs.Header.{header_text}
 
@@ -42,13 +46,14 @@ pub record EachCauseHasItsAnswer : Type 0 where
   -- words that are no command
   pub usage : (i : Reading) (o : Writing) (s : Status) → Answers s i o None → s ≡ Usage
   -- a path that holds nothing
-  pub unheld : (i : Reading) (o : Writing) (c : Command) (f : Target) (s : Status) → IsUnheld i.held f.path → function_of c ≡ Some f → Answers s i o (Some c) → (s ≡ ReadFault) ⊎ (s ≡ NoMemory)
+  pub unheld : (i : Reading) (o : Writing) (c : Command) (path : List ℕ) (s : Status) → IsUnheld i.held path → path_of c ≡ Some path → Answers s i o (Some c)
+      → (s ≡ ReadFault) ⊎ (s ≡ NoMemory)
   -- more bytes than the limit that were taken, where the count of bytes was no more than that before the call
-  pub too_many : (i : Reading) (o : Writing) (c : Command) (f : Target) (s : Status) → i.got ≤ limit → limit < i.got_now → function_of c ≡ Some f → Answers s i o (Some c)
+  pub too_many : (i : Reading) (o : Writing) (c : Command) (path : List ℕ) (s : Status) → i.got ≤ limit → limit < i.got_now → path_of c ≡ Some path → Answers s i o (Some c)
       → (s ≡ FileTooLarge) ⊎ (s ≡ NoMemory)
   -- a file that is longer than the limit
-  pub too_large : (i : Reading) (o : Writing) (c : Command) (f : Target) (bytes : List ℕ) (s : Status) → HoldsAt i.held f.path bytes → limit < length bytes
-      → (Rose i.faults i.faults_now → ⊥) → function_of c ≡ Some f → Answers s i o (Some c) → (s ≡ FileTooLarge) ⊎ (s ≡ NoMemory)
+  pub too_large : (i : Reading) (o : Writing) (c : Command) (path bytes : List ℕ) (s : Status) → HoldsAt i.held path bytes → limit < length bytes
+      → (Rose i.faults i.faults_now → ⊥) → path_of c ≡ Some path → Answers s i o (Some c) → (s ≡ FileTooLarge) ⊎ (s ≡ NoMemory)
   -- a file that breaks a rule
   pub broken : (i : Reading) (o : Writing) (c : Command) (f : Target) (bytes : List ℕ) (fault : ElfFault) (s : Status) → HoldsAt i.held f.path bytes
       → length bytes ≤ limit → image_of bytes ≡ Err fault → (Rose i.faults i.faults_now → ⊥) → function_of c ≡ Some f → Answers s i o (Some c) → (s ≡ NotElf fault) ⊎ (s ≡ NoMemory)
@@ -64,6 +69,15 @@ pub record EachCauseHasItsAnswer : Type 0 where
   pub outside : (words : List (List ℕ)) (i : Reading) (o : Writing) (c : Command) (f : Target) (bytes : List ℕ) (m : List Segment) (r : Range) (p : Place) (s : Status)
       → IsAccepted words i c f bytes m r → NamedPlace m r p → (Rose i.faults i.faults_now → ⊥) → Answers s i o (command_of words)
       → (s ≡ Outside p) ⊎ (s ≡ NoMemory)
+  -- a text that stands for a function: the whole canonical text of that function is written, unless memory runs out or a count
+  -- of faults rises
+  pub tidy : (words : List (List ℕ)) (i : Reading) (o : Writing) (path bytes : List ℕ) (f : CFun) (s : Status) → command_of words ≡ Some (Tidy path)
+      → HoldsAt i.held path bytes → length bytes ≤ limit → StandsFor bytes f → HasNoFault i o → Answers s i o (command_of words)
+      → ((s ≡ Done) × Appends o.taken o.taken_now (canonical_text f)) ⊎ (s ≡ NoMemory)
+  -- a text that stands for none: it is refused at its place
+  pub not_profile : (words : List (List ℕ)) (i : Reading) (o : Writing) (path bytes : List ℕ) (at : ℕ) (s : Status) → command_of words ≡ Some (Tidy path)
+      → HoldsAt i.held path bytes → length bytes ≤ limit → IsRefusedAt bytes at → (Rose i.faults i.faults_now → ⊥) → Answers s i o (command_of words)
+      → (s ≡ NotProfile at) ⊎ (s ≡ NoMemory)
   -- a drill that is asked for: done, unless memory runs out or the count of faults of the output rises
   pub drill : (words : List (List ℕ)) (i : Reading) (o : Writing) (n : ℕ) (s : Status) → command_of words ≡ Some (Drill n) → Answers s i o (command_of words)
       → (s ≡ Done) ⊎ ((s ≡ NoMemory) ⊎ ((s ≡ WriteFault) × Rose o.faults o.faults_now))

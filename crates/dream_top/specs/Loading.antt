@@ -5,13 +5,15 @@ use Rattle.dream_outside.specs.Causes.{Rose, counted}
 use Rattle.dream_top.specs.declared.load.LoadFault.{LoadFault}
 use Rattle.dream_top.specs.declared.load.LoadFault.TheVariants.{Fault, TooLarge, Memory}
 use Rattle.dream_top.specs.declared.status.Status.{Status}
-use Rattle.dream_top.specs.declared.status.Status.TheVariants.{ReadFault, FileTooLarge, NoMemory, NotElf, NoFunction, Outside}
+use Rattle.dream_top.specs.declared.status.Status.TheVariants.{ReadFault, FileTooLarge, NoMemory, NotElf, NoFunction, Outside, NotProfile}
 use Rattle.elf_image.specs.declared.image.ImageFault.{ImageFault}
 use Rattle.elf_image.specs.declared.image.ImageFault.TheVariants as image
 use Rattle.elf_symbols.specs.declared.find.FindFault.{FindFault}
 use Rattle.elf_symbols.specs.declared.find.FindFault.TheVariants as find
 use Rattle.flow_graph.specs.declared.place.FlowFault.{FlowFault}
 use Rattle.flow_graph.specs.declared.place.FlowFault.TheVariants as flow
+use Rattle.c_read.specs.declared.text.TextFault.{TextFault}
+use Rattle.c_read.specs.declared.text.TextFault.TheVariants as text
 use Rattle.dream_top.specs.Answers.{limit, Reading, IsReadFault, IsTooLarge}
 
 -- one turn of reading: some bytes more, or the end
@@ -66,3 +68,7 @@ find_status find.NoFunction = NoFunction
 abbrev pub flow_status : FlowFault → Status
 flow_status (flow.Outside place) = Outside place
 flow_status flow.Memory = NoMemory
+
+abbrev pub text_status : TextFault → Status
+text_status (text.At at) = NotProfile at
+text_status text.Memory = NoMemory

@@ -2,6 +2,9 @@
 
 ghost use Rattle.dream_top.specs.Laws.{NoRefusalWithoutCause, EachCauseHasItsAnswer};
 
+use c_read::one_place;
+use c_syntax::one_function;
+
 /// A command whose file is accepted and whose range has no place outside the profile is done, unless a count of faults
 /// rises or memory runs out.
 pub fn no_refusal_without_cause()
@@ -13,4 +16,7 @@ pub fn no_refusal_without_cause()
 /// After more bytes than the limit no fault changes the answer.
 pub fn each_cause_has_its_answer()
     ensures { EachCauseHasItsAnswer }
-{}
+{
+    one_function();
+    one_place();
+}

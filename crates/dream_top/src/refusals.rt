@@ -1,10 +1,11 @@
 //! The status of each fault on the way to a text.
 
 ghost use Rattle.std.specs.Prelude.{◌≡◌};
-ghost use Rattle.dream_top.specs.Loading.{load_status, image_status, find_status, flow_status};
+ghost use Rattle.dream_top.specs.Loading.{load_status, image_status, find_status, flow_status, text_status};
 
 use crate::load::LoadFault;
 use crate::status::Status;
+use c_read::TextFault;
 use elf_image::ImageFault;
 use elf_symbols::FindFault;
 use flow_graph::FlowFault;
@@ -50,6 +51,17 @@ impl From<FlowFault> for Status {
         match fault {
             FlowFault::Outside(place) => Status::Outside(place),
             FlowFault::Memory => Status::NoMemory,
+        }
+    }
+}
+
+impl From<TextFault> for Status {
+    ghost from_gives = { λ fault status. status ≡ text_status fault };
+
+    fn from(fault: TextFault) -> Status {
+        match fault {
+            TextFault::At(at) => Status::NotProfile(at),
+            TextFault::Memory => Status::NoMemory,
         }
     }
 }

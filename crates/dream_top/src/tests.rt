@@ -658,7 +658,7 @@ fn tells_how_words_are_used(rt: HostRuntime) -> Result<(), Fail> {
     let alloc = rt.alloc();
     let note =
         "dream: usage: decompile PATH FUNC, plain PATH FUNC, run PATH FUNC N WORDS, tidy PATH, drill N, prelude\n";
-    let cases: [&[&str]; 20] = [
+    let cases: [&[&str]; 23] = [
         &[],
         &["--help"],
         &["decompile"],
@@ -673,6 +673,9 @@ fn tells_how_words_are_used(rt: HostRuntime) -> Result<(), Fail> {
         &["run", "a", "0x08048100+6", "1000001"],
         &["run", "a", "0x08048100+6", "0x10"],
         &["run", "a", "0x08048100+6", "10", "ax=1"],
+        &["tidy"],
+        &["tidy", ""],
+        &["tidy", "a", "main"],
         &["drill"],
         &["drill", "0"],
         &["drill", "4001"],
@@ -741,6 +744,64 @@ static inline uint32_t divsq(uint32_t h, uint32_t l, uint32_t d) { uint32_t q; i
 static inline uint32_t divsr(uint32_t h, uint32_t l, uint32_t d) { uint32_t r; if (divsbad(h, l, d)) return 0u; r = (uint32_t)(magw(h, l) % mag(d)); return (h >> 31) ? 0u - r : r; }
 #endif
 ";
+
+// The text at the path `a`, tidied.
+fn tidy(alloc: Global, text: &[u8]) -> Result<Ran, Fail> {
+    let mut files = files(alloc, Vec::from_slice(alloc, text)?, Vec::new(alloc))?;
+    call(alloc, &mut files, &["tidy", "a"], sink(alloc)?)
+}
+
+// Every blank and line end after the first line is doubled, and a text that is no longer one of the profile.
+#[test]
+fn tidies_texts(rt: HostRuntime) -> Result<(), Fail> {
+    let alloc = rt.alloc();
+    let mut doubled = Vec::from_slice(alloc, &MOVE_TEXT.as_bytes()[..22])?;
+    for &byte in &MOVE_TEXT.as_bytes()[22..] {
+        doubled.push(byte)?;
+        if byte == b' ' || byte == b'\n' {
+            doubled.push(byte)?;
+        }
+    }
+    let ran = tidy(alloc, &doubled)?;
+    assert!(rt; ran.status == Status::Done);
+    assert_eq!(rt; ran.out.bytes().len(), 95);
+    assert_eq!(rt; ran.out.bytes(), MOVE_TEXT.as_bytes());
+    assert_eq!(rt; ran.notes.bytes().len(), 0);
+    let text = b"#include \"dream386.h\"\n\nvoid f_08048100(void)\n{\n  goto x;\n}\n";
+    let ran = tidy(alloc, text.as_slice())?;
+    assert!(rt; ran.status == Status::NotProfile(49));
+    assert_eq!(rt; ran.status.code(), 9);
+    assert_eq!(rt;
+        ran.notes.bytes(),
+        b"dream: not a profile text at 49\n".as_slice()
+    );
+    assert_eq!(rt; ran.out.bytes().len(), 0);
+    Ok(())
+}
+
+// A path that holds nothing, a file that is longer than the limit and no text, and an output that stops.
+#[test]
+fn tidies_in_the_order_of_refusals(rt: HostRuntime) -> Result<(), Fail> {
+    let alloc = rt.alloc();
+    let text = Vec::from_slice(alloc, MOVE_TEXT.as_bytes())?;
+    let mut files = files(alloc, text, Vec::new(alloc))?;
+    let ran = call(alloc, &mut files, &["tidy", "b"], sink(alloc)?)?;
+    assert!(rt; ran.status == Status::ReadFault);
+    let narrow = MemSink::new(alloc, 67_108_864, 10, vec![in alloc; 2]?)?;
+    let ran = call(alloc, &mut files, &["tidy", "a"], narrow)?;
+    assert!(rt; ran.status == Status::WriteFault);
+    assert_eq!(rt; ran.out.bytes(), b"#include \"".as_slice());
+    for (left, status) in [
+        (67_108_865, Status::FileTooLarge),
+        (67_108_864, Status::NotProfile(0)),
+    ] {
+        let mut zeros = Zeros { left, got: 0 };
+        let ran = call(alloc, &mut zeros, &["tidy", "a"], sink(alloc)?)?;
+        assert!(rt; ran.status == status, "{left}");
+        assert_eq!(rt; ran.out.bytes().len(), 0, "{left}");
+    }
+    Ok(())
+}
 
 #[test]
 fn writes_the_header(rt: HostRuntime) -> Result<(), Fail> {

@@ -3,7 +3,7 @@
 ghost use Rattle.std.specs.Prelude.{◌≤◌, map, string_bytes, IfOk, IfErr};
 ghost use Rattle.dream_top.specs.CommandLine.{target_said, command_of};
 ghost use Rattle.dream_top.specs.Notes.{note_of};
-ghost use Rattle.dream_top.specs.Answers.{reading_of, writing_of, Makes, Refuses, AnswersFunction, Writes, WritesMade, Answers, Tells};
+ghost use Rattle.dream_top.specs.Answers.{reading_of, writing_of, Makes, Refuses, AnswersFunction, Tidies, RefusesText, AnswersTidy, Writes, WritesMade, Answers, Tells};
 ghost use Rattle.dream_engine.specs.Agreement.{IsDecompiled};
 ghost use Rattle.dream_top.specs.Header.{header_text};
 ghost use Rattle.dream_top.specs.Runs.{IsRunText};
@@ -12,11 +12,14 @@ ghost use Rattle.drill_lines.specs.Lines.{IsDrillLine};
 
 use crate::finding::find;
 use crate::header::HEADER;
+use crate::load::load;
 use crate::notes::tell;
 use crate::runs::run_text;
 use crate::status::Status;
 use crate::words::{Command, Target, command_in};
 use crate::writing::put_all;
+use c_print::print;
+use c_read::read;
 use dream_engine::{Form, decompile_one};
 use dream_outside::{Files, Sink};
 use drill_lines::drill_line;
@@ -104,6 +107,39 @@ fn write_run<F: Files, K: Sink>(
     }
 }
 
+// The canonical text of the text at a path.
+fn tidy<F: Files>(alloc: Global, files: &mut F, path: &str) -> Result<Vec<u8>, Status>
+    ensures ok { IfOk result (λ text. Tidies
+        (reading_of (F.held files.old) (F.faults files.old) (F.faults files.new) (F.got files.old) (F.got files.new))
+        path.now text.items) }
+    ensures err { IfErr result (λ s. RefusesText s
+        (reading_of (F.held files.old) (F.faults files.old) (F.faults files.new) (F.got files.old) (F.got files.new))
+        path.now) }
+{
+    let bytes = load(alloc, files, path)?;
+    let function = read(alloc, &bytes)?;
+    match print(alloc, &function) {
+        Ok(text) => Ok(text),
+        Err(_) => Err(Status::NoMemory),
+    }
+}
+
+// Writes that text.
+fn write_tidy<F: Files, K: Sink>(alloc: Global, files: &mut F, path: &str, out: &mut K) -> Status
+    ensures { AnswersTidy result
+        (reading_of (F.held files.old) (F.faults files.old) (F.faults files.new) (F.got files.old) (F.got files.new))
+        (writing_of (K.taken out.old) (K.taken out.new) (K.faults out.old) (K.faults out.new))
+        path.now }
+{
+    match tidy(alloc, files, path) {
+        Err(status) => status,
+        Ok(text) => match put_all(out, &text) {
+            Ok(()) => Status::Done,
+            Err(_) => Status::WriteFault,
+        },
+    }
+}
+
 // Writes the line of a drill.
 fn write_drill<K: Sink>(alloc: Global, functions: u32, out: &mut K) -> Status
     requires some { 1 ≤ functions }
@@ -145,6 +181,7 @@ fn work<F: Files, K: Sink>(alloc: Global, words: &[String], files: &mut F, out: 
         Some(Command::Run(target, steps, words)) => {
             write_run(alloc, files, target, steps, words, out)
         }
+        Some(Command::Tidy(path)) => write_tidy(alloc, files, path, out),
         Some(Command::Drill(functions)) => write_drill(alloc, functions, out),
         Some(Command::Prelude) => write_header(out),
     }

@@ -1,7 +1,7 @@
 //! The words of the command line.
 
 ghost use Rattle.std.specs.Prelude.{◌≡◌, ◌<◌, ℕ, map, string_bytes, IfSome, MatchOption};
-ghost use Rattle.dream_top.specs.CommandLine.{hex_digit as hex_digit_of, hex_number as hex_number_of, sum_form as sum_form_of, address_form as address_form_of, func_of as func_of_word, func_said, target_said, form_named as form_named_of, function_at as function_at_of, function_asked as function_asked_of, run_asked as run_asked_of, drill_asked as drill_asked_of, is_prelude as asks_for_header, command_of, asked_by};
+ghost use Rattle.dream_top.specs.CommandLine.{hex_digit as hex_digit_of, hex_number as hex_number_of, sum_form as sum_form_of, address_form as address_form_of, func_of as func_of_word, func_said, target_said, form_named as form_named_of, function_at as function_at_of, function_asked as function_asked_of, run_asked as run_asked_of, drill_asked as drill_asked_of, tidy_at as tidy_at_of, tidy_asked as tidy_asked_of, is_prelude as asks_for_header, command_of, asked_by};
 
 use dream_engine::Form;
 use elf_image::Range;
@@ -30,6 +30,8 @@ pub enum Command<'a> {
     Decompile(Form, Target<'a>),
     /// The runs of a function, of so many steps, from the start that words give.
     Run(Target<'a>, u32, &'a [String]),
+    /// The canonical text of the text at a path.
+    Tidy(&'a str),
     /// The line of a drill of so many functions.
     Drill(u32),
     /// The header that each text includes.
@@ -155,6 +157,26 @@ fn drill_asked(words: &[String]) -> Option<Command<'_>>
     }
 }
 
+// The text at a PATH.
+fn tidy_at(path: &str) -> Option<Command<'_>>
+    ensures { MatchOption result (tidy_at_of path.now ≡ None) (λ c. tidy_at_of path.now ≡ Some (asked_by c)) }
+{
+    if path.is_empty() {
+        return None;
+    }
+    Some(Command::Tidy(path))
+}
+
+// The text that the words ask for, if they do.
+fn tidy_asked(words: &[String]) -> Option<Command<'_>>
+    ensures { MatchOption result (tidy_asked_of (map string_bytes words.now) ≡ None) (λ c. tidy_asked_of (map string_bytes words.now) ≡ Some (asked_by c)) }
+{
+    match words {
+        [name, path] if name.as_str() == "tidy" => tidy_at(path.as_str()),
+        _ => None,
+    }
+}
+
 // Whether the words ask for the header.
 fn is_prelude(words: &[String]) -> bool
     ensures { result ≡ asks_for_header (map string_bytes words.now) }
@@ -174,6 +196,8 @@ pub fn command_in(words: &[String]) -> Option<Command<'_>>
     } else if let Some(command) = function_asked(words) {
         Some(command)
     } else if let Some(command) = run_asked(words) {
+        Some(command)
+    } else if let Some(command) = tidy_asked(words) {
         Some(command)
     } else {
         drill_asked(words)
