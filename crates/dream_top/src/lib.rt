@@ -1,4 +1,5 @@
-//! The program as one call: words in, the C of a function, its runs or the header out, and a note where there is none.
+//! The program as one call: words in; the C of a function, its runs, a text in its canonical form, the line of a drill
+//! or the header out; and a note where there is none.
 //! Given are the words, the files, and the streams for the output and for the notes.
 //! Promised is, for each status, what it says of them: the C means what the code means, or the refusal has its cause.
 #![tactic(auto)]

@@ -224,7 +224,7 @@ fn turned(
     }
 }
 
-/// What the token after all that is whole has made of a place, if anything.
+/// What comes of it where a token has made this of a place, if anything.
 fn after_turn(
     alloc: Global,
     open: Items<Open>,
@@ -239,7 +239,7 @@ fn after_turn(
     }
 }
 
-/// What the token inside a Word or Cond has made of it, if anything.
+/// What comes of it where a token has made this of a Word or Cond, if anything.
 fn went(open: Items<Open>, stmts: Items<CStmt>, wanted: Use, part: Option<Part>) -> Option<Outcome>
     ensures { option_map outcome_of result ≡ went_of (reverse «open») stmts wanted (option_map reading_of part) }
 {

@@ -13,10 +13,10 @@ use sqlite_items::Items;
 use std::alloc::{AllocError, Global};
 
 /// How many Bodies more may stand one in another, inside the open ones.
-fn depth_left(open: &[Open]) -> usize
-    ensures { result ≡ depth_of (reverse open.now) }
+fn depth_left(around: &[Open]) -> usize
+    ensures { result ≡ depth_of (reverse around.now) }
 {
-    512usize.saturating_sub(open.len())
+    512usize.saturating_sub(around.len())
 }
 
 /// Whether a `break` inside a Body of this ends there.
@@ -30,17 +30,17 @@ fn catches_break(nest: &Nest) -> bool
 }
 
 /// Whether a `break` may stand in the innermost Body.
-fn breakable(open: &[Open]) -> bool
-    ensures { result ≡ breakable_of (reverse open.now) }
+fn breakable(around: &[Open]) -> bool
+    ensures { result ≡ breakable_of (reverse around.now) }
 {
-    open.iter().any(|body| catches_break(&body.nest))
+    around.iter().any(|body| catches_break(&body.nest))
 }
 
 /// The first token of a statement, or the end of the Body.
-fn at_stmt(alloc: Global, locals: Locals, open: &[Open], token: Token) -> Option<Turn>
-    ensures { result ≡ at_stmt_of locals (breakable_of (reverse open.now)) (depth_of (reverse open.now)) token }
+fn at_stmt(alloc: Global, locals: Locals, around: &[Open], token: Token) -> Option<Turn>
+    ensures { result ≡ at_stmt_of locals (breakable_of (reverse around.now)) (depth_of (reverse around.now)) token }
 {
-    let nests = depth_left(open) >= 1;
+    let nests = depth_left(around) >= 1;
     match token {
         Token::Name(name) if locals.may_set(name) => Some(Turn::To(Point::Named(name))),
         Token::St(width) => Some(Turn::To(Point::Called(Use::Address(width)))),
@@ -50,7 +50,7 @@ fn at_stmt(alloc: Global, locals: Locals, open: &[Open], token: Token) -> Option
         Token::Switch if nests => Some(Turn::To(Point::Called(Use::Switch))),
         Token::While if nests => Some(Turn::To(Point::WhileOpen)),
         Token::Do if nests => Some(Turn::To(Point::Begins(Nest::Do))),
-        Token::Break if breakable(open) => Some(Turn::To(Point::Semicolon(CStmt::Break))),
+        Token::Break if breakable(around) => Some(Turn::To(Point::Semicolon(CStmt::Break))),
         Token::Return => Some(Turn::To(Point::Semicolon(CStmt::Return))),
         Token::End => Some(Turn::Ends),
         _ => None,
@@ -176,14 +176,14 @@ fn after_case(switching: Switching, values: Items<u32>, token: Token) -> Option<
 pub(crate) fn turn(
     alloc: Global,
     locals: Locals,
-    open: &[Open],
+    around: &[Open],
     point: Point,
     token: Token,
 ) -> Result<Option<Turn>, AllocError>
-    ensures { IfOk result (λ t. t ≡ turn_of locals (breakable_of (reverse open.now)) (depth_of (reverse open.now)) point token) }
+    ensures { IfOk result (λ t. t ≡ turn_of locals (breakable_of (reverse around.now)) (depth_of (reverse around.now)) point token) }
 {
     match point {
-        Point::Stmt => Ok(at_stmt(alloc, locals, open, token)),
+        Point::Stmt => Ok(at_stmt(alloc, locals, around, token)),
         Point::Named(name) => Ok(expect(Mark::Assign, Turn::To(Point::Assigned(name)), token)),
         Point::Assigned(name) => Ok(at_load(name, token)),
         Point::Called(part) => Ok(expect(Mark::Open, Turn::Part(part), token)),

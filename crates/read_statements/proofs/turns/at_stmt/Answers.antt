@@ -7,8 +7,8 @@ use Rattle.read_statements.proofs.turns.at_stmt.Goals.{in_default-via-in-Name+el
 pub returns-in_default : goal.returns-in_default
 returns-in_default c =
     let l = c.args.locals in
-    let b = breakable (reverse c.args.open.now) in
-    let left = depth_left (reverse c.args.open.now) in
+    let b = breakable (reverse c.args.around.now) in
+    let left = depth_left (reverse c.args.around.now) in
     let x = c.args.token in
     let n = c.depth_left-nests.result in
     elim c.in_default.branch [

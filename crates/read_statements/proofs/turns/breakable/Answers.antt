@@ -6,5 +6,5 @@ use Rattle.read_statements.proofs.turns.breakable.Goals as goal
 
 pub returns : goal.returns
 returns c =
-    let any_is = any_from_yields_List catches _ _ c.any.result c.any.ensures.ran (YieldsList-from_slice c.args.open.now cc) (λ x b q k. search (rules, tests)) in
-    any_is ∙ breakable_reversed c.args.open.now
+    let any_is = any_from_yields_List catches _ _ c.any.result c.any.ensures.ran (YieldsList-from_slice c.args.around.now cc) (λ x b q k. search (rules, tests)) in
+    any_is ∙ breakable_reversed c.args.around.now
