@@ -365,7 +365,7 @@ made_written : (P : List ℕ → Type 0) (s : Status) (o : Writing) → WritesMa
 made_written P Done o w = inl refl
 made_written P NoMemory o w = inr (inl refl)
 made_written P WriteFault o w = inr (inr (refl, w.2.rose))
-made_written P s o w = absurd w
+made_written P s o w = absurd w.0
 
 pub each_cause_has_its_answer : OneFunction → OnePlace → EachCauseHasItsAnswer
 each_cause_has_its_answer one_function one_place = record {

@@ -3,3 +3,4 @@ mod Streams
 mod Held
 mod Causes
 mod Lines
+mod Made

@@ -181,19 +181,24 @@ RefusesText (Outside place) i path = ⊥
 
 -- ---- the answers
 
--- What a status says where something is to be made of a function. The output grows by the whole text at Done, by a front of it
--- at WriteFault, and not at all otherwise.
-abbrev pub AnswersFunction : Made → Status → Reading → Writing → Target → Type 0
-AnswersFunction P Done i o f = (text : List ℕ) × Makes P i f text × Appends o.taken o.taken_now text
-AnswersFunction P WriteFault i o f = (text : List ℕ) × Makes P i f text × StopsIn o text
-AnswersFunction P s i o f = Refuses s i f × Keeps o.taken o.taken_now
+-- What a status says where a text is to be made. The output grows by the whole of it at Done, by a front of it at WriteFault, and
+-- not at all otherwise, for a reason.
+abbrev pub AnswersMade : (List ℕ → Type 0) → (Status → Type 0) → Status → Writing → Type 0
+AnswersMade makes refuses Done o = (text : List ℕ) × makes text × Appends o.taken o.taken_now text
+AnswersMade makes refuses WriteFault o = (text : List ℕ) × makes text × StopsIn o text
+AnswersMade makes refuses s o = refuses s × Keeps o.taken o.taken_now
 
--- What a status says where a text is to be made canonical. The output grows by the whole canonical text at Done, by a front of
--- it at WriteFault, and not at all otherwise.
+-- where something is to be made of a function
+abbrev pub AnswersFunction : Made → Status → Reading → Writing → Target → Type 0
+AnswersFunction P s i o f = AnswersMade (Makes P i f) (λ why. Refuses why i f) s o
+
+-- where a text is to be made canonical
 abbrev pub AnswersTidy : Status → Reading → Writing → List ℕ → Type 0
-AnswersTidy Done i o path = (text : List ℕ) × Tidies i path text × Appends o.taken o.taken_now text
-AnswersTidy WriteFault i o path = (text : List ℕ) × Tidies i path text × StopsIn o text
-AnswersTidy s i o path = RefusesText s i path × Keeps o.taken o.taken_now
+AnswersTidy s i o path = AnswersMade (Tidies i path) (λ why. RefusesText why i path) s o
+
+-- nothing is written, and the status is the reason
+abbrev pub IsLeft : Status → Status → Option (List ℕ) → Option (List ℕ) → Type 0
+IsLeft why s taken taken_now = (s ≡ why) × Keeps taken taken_now
 
 -- What a status says of a text that is known before: the output grows by the whole of it at Done and by a front of it at
 -- WriteFault. No other status comes.
@@ -202,13 +207,14 @@ Writes Done o text = Appends o.taken o.taken_now text
 Writes WriteFault o text = StopsIn o text
 Writes s o text = ⊥
 
--- What a status says of a text that is made first: the output grows by the whole of it at Done, by a front of it at WriteFault,
--- and not at all where memory runs out. No other status comes.
+-- memory ran out
+abbrev pub WantsMemory : Status → Type 0
+WantsMemory NoMemory = Unit {0}
+WantsMemory s = ⊥
+
+-- where a text is to be made of words alone
 abbrev pub WritesMade : (List ℕ → Type 0) → Status → Writing → Type 0
-WritesMade P Done o = (text : List ℕ) × P text × Appends o.taken o.taken_now text
-WritesMade P WriteFault o = (text : List ℕ) × P text × StopsIn o text
-WritesMade P NoMemory o = Keeps o.taken o.taken_now
-WritesMade P s o = ⊥
+WritesMade P s o = AnswersMade P WantsMemory s o
 
 -- The line of a drill is written, and no call on the files changed their counts.
 pub record AnswersDrill (n : ℕ) (s : Status) (i : Reading) (o : Writing) : Type 0 where

@@ -3,7 +3,7 @@
 ghost use Rattle.std.specs.Prelude.{◌≤◌, map, string_bytes, IfOk, IfErr};
 ghost use Rattle.dream_top.specs.CommandLine.{target_said, command_of};
 ghost use Rattle.dream_top.specs.Notes.{note_of};
-ghost use Rattle.dream_top.specs.Answers.{reading_of, writing_of, Makes, Refuses, AnswersFunction, Tidies, RefusesText, AnswersTidy, Writes, WritesMade, Answers, Tells};
+ghost use Rattle.dream_top.specs.Answers.{reading_of, writing_of, Makes, Refuses, AnswersFunction, Tidies, RefusesText, AnswersTidy, IsLeft, Writes, WritesMade, Answers, Tells};
 ghost use Rattle.dream_engine.specs.Agreement.{IsDecompiled};
 ghost use Rattle.dream_top.specs.Header.{header_text};
 ghost use Rattle.dream_top.specs.Runs.{IsRunText};
@@ -24,6 +24,31 @@ use dream_engine::{Form, decompile_one};
 use dream_outside::{Files, Sink};
 use drill_lines::drill_line;
 use std::alloc::Global;
+
+// Writes a text.
+fn write_text<K: Sink>(text: &[u8], out: &mut K) -> Status
+    ensures { Writes result
+        (writing_of (K.taken out.old) (K.taken out.new) (K.faults out.old) (K.faults out.new))
+        text.now }
+{
+    match put_all(out, text) {
+        Ok(()) => Status::Done,
+        Err(_) => Status::WriteFault,
+    }
+}
+
+// Writes a text that was made, if one was.
+fn write_made<K: Sink>(made: Result<Vec<u8>, Status>, out: &mut K) -> Status
+    ensures ok { IfOk made (λ text. Writes result
+        (writing_of (K.taken out.old) (K.taken out.new) (K.faults out.old) (K.faults out.new))
+        text.items) }
+    ensures err { IfErr made (λ why. IsLeft why result (K.taken out.old) (K.taken out.new)) }
+{
+    match made {
+        Ok(text) => write_text(&text, out),
+        Err(status) => status,
+    }
+}
 
 // The text of a function, in a form.
 fn decompile<F: Files>(
@@ -56,13 +81,8 @@ fn write_function<F: Files, K: Sink>(
         (writing_of (K.taken out.old) (K.taken out.new) (K.faults out.old) (K.faults out.new))
         (target_said target.entry) }
 {
-    match decompile(alloc, files, form, target) {
-        Err(status) => status,
-        Ok(text) => match put_all(out, &text) {
-            Ok(()) => Status::Done,
-            Err(_) => Status::WriteFault,
-        },
-    }
+    let made = decompile(alloc, files, form, target);
+    write_made(made, out)
 }
 
 // The two lines of a function.
@@ -98,13 +118,8 @@ fn write_run<F: Files, K: Sink>(
         (writing_of (K.taken out.old) (K.taken out.new) (K.faults out.old) (K.faults out.new))
         (target_said target.entry) }
 {
-    match run(alloc, files, target, steps, words) {
-        Err(status) => status,
-        Ok(text) => match put_all(out, &text) {
-            Ok(()) => Status::Done,
-            Err(_) => Status::WriteFault,
-        },
-    }
+    let made = run(alloc, files, target, steps, words);
+    write_made(made, out)
 }
 
 // The canonical text of the text at a path.
@@ -131,13 +146,8 @@ fn write_tidy<F: Files, K: Sink>(alloc: Global, files: &mut F, path: &str, out: 
         (writing_of (K.taken out.old) (K.taken out.new) (K.faults out.old) (K.faults out.new))
         path.now }
 {
-    match tidy(alloc, files, path) {
-        Err(status) => status,
-        Ok(text) => match put_all(out, &text) {
-            Ok(()) => Status::Done,
-            Err(_) => Status::WriteFault,
-        },
-    }
+    let made = tidy(alloc, files, path);
+    write_made(made, out)
 }
 
 // Writes the line of a drill.
@@ -149,10 +159,7 @@ fn write_drill<K: Sink>(alloc: Global, functions: u32, out: &mut K) -> Status
 {
     match drill_line(alloc, functions) {
         Err(_) => Status::NoMemory,
-        Ok(text) => match put_all(out, &text) {
-            Ok(()) => Status::Done,
-            Err(_) => Status::WriteFault,
-        },
+        Ok(text) => write_text(&text, out),
     }
 }
 
@@ -162,10 +169,7 @@ fn write_header<K: Sink>(out: &mut K) -> Status
         (writing_of (K.taken out.old) (K.taken out.new) (K.faults out.old) (K.faults out.new))
         header_text }
 {
-    match put_all(out, HEADER.as_bytes()) {
-        Ok(()) => Status::Done,
-        Err(_) => Status::WriteFault,
-    }
+    write_text(HEADER.as_bytes(), out)
 }
 
 // Does what the words ask for, but for the note.

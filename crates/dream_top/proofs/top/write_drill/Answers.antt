@@ -1,18 +1,12 @@
 use Rattle.std.proofs.Common.{subst}
-use Rattle.std.specs.Io.KnownBytes.{Appends}
-use Rattle.dream_top.specs.Answers.{writing_of, StopsIn}
+use Rattle.drill_lines.specs.Lines.{IsDrillLine}
+use Rattle.dream_top.specs.Answers.{writing_of, WantsMemory, Writes}
+use Rattle.dream_top.proofs.Made.{made}
 use Rattle.dream_top.proofs.top.write_drill.Goals as goal
 
-pub returns-in-Ok-put_all : goal.returns-in-Ok-put_all
-returns-in-Ok-put_all g c =
-    let sink = g.K.Sink in (
-      c.in-Ok.text.items,
-      c.in-Ok.ensures,
-      subst (λ t. Appends (sink.taken c.args.out.now) (sink.taken c.put_all.new.sink) t) c.deref.ensures.value c.in-Ok-put_all.ensures.ok,
-    )
-
-pub returns : goal.returns
-returns g c =
+pub returns-in-Ok : goal.returns-in-Ok
+returns-in-Ok g c =
     let sink = g.K.Sink in
-    let o = writing_of (sink.taken c.args.out.now) (sink.taken c.put_all.new.sink) (sink.faults c.args.out.now) (sink.faults c.put_all.new.sink) in
-    (c.in-Ok.text.items, c.in-Ok.ensures, subst (λ t. StopsIn o t) c.deref.ensures.value c.in-Err-put_all.ensures.err)
+    let o = writing_of (sink.taken c.args.out.now) (sink.taken c.write_text.new.out) (sink.faults c.args.out.now) (sink.faults c.write_text.new.out) in
+    made (IsDrillLine c.args.functions) WantsMemory o c.in-Ok.text.items c.write_text.result c.in-Ok.ensures
+    (subst (λ t. Writes c.write_text.result o t) c.deref.ensures.value c.write_text.ensures)

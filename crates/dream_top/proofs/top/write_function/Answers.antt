@@ -1,18 +1,14 @@
-use Rattle.std.proofs.Common.{subst}
-use Rattle.std.specs.Io.KnownBytes.{Appends}
-use Rattle.dream_top.specs.Answers.{writing_of, StopsIn}
+use Rattle.dream_engine.specs.Agreement.{IsDecompiled}
+use Rattle.dream_top.specs.CommandLine.{target_said}
+use Rattle.dream_top.specs.Answers.{reading_of, writing_of, Makes, Refuses}
+use Rattle.dream_top.proofs.Made.{answered}
 use Rattle.dream_top.proofs.top.write_function.Goals as goal
-
-pub returns-in-Ok-put_all : goal.returns-in-Ok-put_all
-returns-in-Ok-put_all g c =
-    let sink = g.K.Sink in (
-      c.in-Ok.text.items,
-      c.in-Ok.ensures.ok,
-      subst (λ t. Appends (sink.taken c.args.out.now) (sink.taken c.put_all.new.sink) t) c.deref.ensures.value c.in-Ok-put_all.ensures.ok,
-    )
 
 pub returns : goal.returns
 returns g c =
+    let files = g.F.Files in
     let sink = g.K.Sink in
-    let o = writing_of (sink.taken c.args.out.now) (sink.taken c.put_all.new.sink) (sink.faults c.args.out.now) (sink.faults c.put_all.new.sink) in
-    (c.in-Ok.text.items, c.in-Ok.ensures.ok, subst (λ t. StopsIn o t) c.deref.ensures.value c.in-Err-put_all.ensures.err)
+    let i = reading_of (files.held c.args.files.now) (files.faults c.args.files.now) (files.faults c.decompile-made.new.files) (files.got c.args.files.now) (files.got c.decompile-made.new.files) in
+    let o = writing_of (sink.taken c.args.out.now) (sink.taken c.write_made.new.out) (sink.faults c.args.out.now) (sink.faults c.write_made.new.out) in
+    answered (Makes (IsDecompiled c.args.form) i (target_said c.args.target)) (λ why. Refuses why i (target_said c.args.target)) o (λ r. r) (λ r. r) (λ t. t.items)
+    c.decompile-made.result c.write_made.result c.decompile-made.ensures.ok c.decompile-made.ensures.err c.write_made.ensures.ok c.write_made.ensures.err
