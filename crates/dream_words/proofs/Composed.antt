@@ -30,7 +30,7 @@ module _ (first second third : ℕ → Outcome) (a : Agreeing first second) (b :
   calls_on k Undecoded e = absurd (b.never_undecoded k e)
   calls_on k Stuck e = absurd (a.never_stuck k e)
   calls_on k (Returned r m cs) e = ended_calls k (subst (λ o. IsEnded o) (sym e) tt)
-  calls_on k (Faulted v m cs) e = ended_calls k (subst (λ o. IsEnded o) (sym e) tt)
+  calls_on k (Faulted v a m cs) e = ended_calls k (subst (λ o. IsEnded o) (sym e) tt)
   calls_on k (Asking cs) e = ended_calls k (subst (λ o. IsEnded o) (sym e) tt)
 
   calls_back : (m : ℕ) → ((k : ℕ) × AreFront (calls_of (third m)) (calls_of (second k))) ⊎ Strays second → ((n : ℕ) × AreFront (calls_of (third m)) (calls_of (first n))) ⊎ Strays first

@@ -38,7 +38,7 @@ SameCalls_trans (b ∷ bs) [] ds p q = absurd p
 
 pub Same_refl : (o : Outcome) → Same o o
 Same_refl (Returned r m cs) = (refl, (λ a h. refl), SameCalls_refl cs)
-Same_refl (Faulted v m cs) = (refl, (λ a h. refl), SameCalls_refl cs)
+Same_refl (Faulted v at m cs) = (refl, refl, (λ a h. refl), SameCalls_refl cs)
 Same_refl (Asking cs) = SameCalls_refl cs
 Same_refl Strayed = tt
 Same_refl Undecoded = tt
@@ -47,7 +47,7 @@ Same_refl (Going cs) = SameCalls_refl cs
 
 pub Same_sym : (a b : Outcome) → Same a b → Same b a
 Same_sym (Returned r m cs) (Returned s n ds) p = (sym p.0, SameMemory_sym m n p.1, SameCalls_sym cs ds p.2)
-Same_sym (Faulted v m cs) (Faulted w n ds) p = (sym p.0, SameMemory_sym m n p.1, SameCalls_sym cs ds p.2)
+Same_sym (Faulted v a m cs) (Faulted w b n ds) p = (sym p.0, sym p.1, SameMemory_sym m n p.2, SameCalls_sym cs ds p.3)
 Same_sym (Asking cs) (Asking ds) p = SameCalls_sym cs ds p
 Same_sym Strayed Strayed p = tt
 Same_sym Undecoded Undecoded p = tt
@@ -58,8 +58,8 @@ Same_sym a b p = absurd p
 pub Same_trans : (a b c : Outcome) → Same a b → Same b c → Same a c
 Same_trans (Returned q k bs) (Returned r m cs) (Returned s n ds) p h = (p.0 ∙ h.0, SameMemory_trans k m n p.1 h.1, SameCalls_trans bs cs ds p.2 h.2)
 Same_trans (Returned q k bs) (Returned r m cs) c p h = absurd h
-Same_trans (Faulted q k bs) (Faulted r m cs) (Faulted s n ds) p h = (p.0 ∙ h.0, SameMemory_trans k m n p.1 h.1, SameCalls_trans bs cs ds p.2 h.2)
-Same_trans (Faulted q k bs) (Faulted r m cs) c p h = absurd h
+Same_trans (Faulted q a k bs) (Faulted r b m cs) (Faulted s c n ds) p h = (p.0 ∙ h.0, p.1 ∙ h.1, SameMemory_trans k m n p.2 h.2, SameCalls_trans bs cs ds p.3 h.3)
+Same_trans (Faulted q a k bs) (Faulted r b m cs) c p h = absurd h
 Same_trans (Asking bs) (Asking cs) (Asking ds) p h = SameCalls_trans bs cs ds p h
 Same_trans (Asking bs) (Asking cs) c p h = absurd h
 Same_trans Strayed Strayed c p h = h
@@ -72,7 +72,7 @@ Same_trans a b c p h = absurd p
 -- what is the same as an outcome that has ended has ended
 pub Same-IsEnded : (a b : Outcome) → Same a b → IsEnded a → IsEnded b
 Same-IsEnded (Returned r m cs) (Returned s n ds) p h = tt
-Same-IsEnded (Faulted v m cs) (Faulted w n ds) p h = tt
+Same-IsEnded (Faulted v a m cs) (Faulted w b n ds) p h = tt
 Same-IsEnded (Asking cs) (Asking ds) p h = tt
 Same-IsEnded Strayed Strayed p h = absurd h
 Same-IsEnded Undecoded Undecoded p h = absurd h
@@ -106,7 +106,7 @@ AreFront-append (c ∷ cs) ds = (SameCall_refl c, AreFront-append cs ds)
 -- the calls of an outcome that is the same
 pub AreFront-Same : (a b : Outcome) → Same a b → AreFront (calls_of a) (calls_of b)
 AreFront-Same (Returned r m cs) (Returned s n ds) p = AreFront-SameCalls cs ds p.2
-AreFront-Same (Faulted v m cs) (Faulted w n ds) p = AreFront-SameCalls cs ds p.2
+AreFront-Same (Faulted v a m cs) (Faulted w b n ds) p = AreFront-SameCalls cs ds p.3
 AreFront-Same (Asking cs) (Asking ds) p = AreFront-SameCalls cs ds p
 AreFront-Same Strayed Strayed p = tt
 AreFront-Same Undecoded Undecoded p = tt

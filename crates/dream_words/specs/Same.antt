@@ -19,7 +19,7 @@ SameCalls (a ∷ as') [] = ⊥
 -- Flags are in no contents.
 abbrev pub Same : Outcome → Outcome → Type 0
 Same (Returned r m cs) (Returned r' m' cs') = (r ≡ r') × SameMemory m m' × SameCalls cs cs'
-Same (Faulted v m cs) (Faulted v' m' cs') = (v ≡ v') × SameMemory m m' × SameCalls cs cs'
+Same (Faulted v a m cs) (Faulted v' a' m' cs') = (v ≡ v') × (a ≡ a') × SameMemory m m' × SameCalls cs cs'
 Same (Asking cs) (Asking cs') = SameCalls cs cs'
 Same Strayed Strayed = Unit {0}
 Same Undecoded Undecoded = Unit {0}
@@ -30,7 +30,7 @@ Same _ _ = ⊥
 -- the run has returned, faulted or asks
 abbrev pub IsEnded : Outcome → Type 0
 IsEnded (Returned r m cs) = Unit {0}
-IsEnded (Faulted v m cs) = Unit {0}
+IsEnded (Faulted v a m cs) = Unit {0}
 IsEnded (Asking cs) = Unit {0}
 IsEnded Strayed = ⊥
 IsEnded Undecoded = ⊥
@@ -44,7 +44,7 @@ IsGoing o = (cs : List Call) × (o ≡ Going cs)
 -- the calls of an outcome; a run that strayed, is stuck or has no instruction tells none
 abbrev pub calls_of : Outcome → List Call
 calls_of (Returned r m cs) = cs
-calls_of (Faulted v m cs) = cs
+calls_of (Faulted v a m cs) = cs
 calls_of (Asking cs) = cs
 calls_of Strayed = []
 calls_of Undecoded = []

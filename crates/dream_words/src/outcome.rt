@@ -2,6 +2,7 @@
 
 use crate::machine::{Flags, Regs};
 use crate::memory::Memory;
+use crate::pages::Pages;
 use sqlite_items::Items;
 
 /// The state in which a run starts.
@@ -14,6 +15,8 @@ pub struct Start {
     /// The base of the segment GS.
     pub gs: u32,
     pub mem: Memory,
+    /// The pages that may be read and written; they stay the same while the run lasts.
+    pub pages: Pages,
 }
 
 /// What a call comes back with.
@@ -41,9 +44,11 @@ pub enum Outcome {
         mem: Memory,
         calls: Items<Call>,
     },
-    /// The run met the fault of a vector (Intel SDM vol. 3, 6.3.1).
+    /// The run met the fault of a vector (Intel SDM vol. 3, 6.3.1), 0 to 255.
     Faulted {
         vector: u32,
+        /// Of a page fault, vector 14, the address of the first byte that isn't allowed; else 0.
+        at: u32,
         mem: Memory,
         calls: Items<Call>,
     },

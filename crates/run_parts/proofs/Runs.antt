@@ -7,7 +7,7 @@ use Rattle.dream_words.specs.declared.outcome.Outcome.TheVariants as outcome
 use Rattle.run_parts.specs.Parts.{Exit, Past, Broke, Over, Stuck, Run, Ends, Goes, Part, Test, skip, leave_loop, goes_on, on, after, seq, in_turn, decide, choose, first_arm, caught, catch_break, has, group_of, given, switch, round, turn, rounds, repeat}
 use Rattle.run_parts.specs.Steps.{Did, Next, Halt, Jam, having, done, simply, do_all, then_do}
 use Rattle.run_parts.specs.World.{World}
-use Rattle.run_parts.specs.Effects.{Doing, answered_by}
+use Rattle.run_parts.specs.Effects.{Doing, allowing, answered_by}
 use Rattle.run_parts.specs.Laws.{Begins, OutcomeShows, ExitShows, Shows, DidShows, Told, IsRun, AllRuns, AllArms, AllGroups, PartsAreRuns, EffectsAreRuns}
 
 -- runs and parts of a world
@@ -26,7 +26,7 @@ begins_on xs ys zs a b = (a.0 ++ b.0, b.1 ∙ ap (λ l. l ++ b.0) a.1 ∙ append
 -- what shows more calls shows fewer
 outcome_on : (xs ys : List Call) (o : Outcome) → Begins xs ys → OutcomeShows ys o → OutcomeShows xs o
 outcome_on xs ys (outcome.Returned r m c) a h = begins_on xs ys c a h
-outcome_on xs ys (outcome.Faulted v m c) a h = begins_on xs ys c a h
+outcome_on xs ys (outcome.Faulted v at m c) a h = begins_on xs ys c a h
 outcome_on xs ys (outcome.Asking c) a h = begins_on xs ys c a h
 outcome_on xs ys (outcome.Going c) a h = begins_on xs ys c a h
 outcome_on xs ys outcome.Strayed a h = tt
@@ -309,8 +309,13 @@ answered_shows : (c : List Call) (left : List Answer) (calls : List Call) (w : W
 answered_shows c [] calls w h = h
 answered_shows c (a ∷ rest) calls w h = h
 
+-- an access
+access_shows : (bad : Option ℕ) (w : World) (next : Doing) → DidShows w.calls next → DidShows w.calls (allowing bad w next)
+access_shows None w next h = h
+access_shows (Some a) w next h = begins_self w.calls
+
 -- a fault
-trap_shows : (vector : ℕ) (b : Bool) (w : World) → DidShows w.calls (if b then Next w else Halt (outcome.Faulted vector w.mem w.calls))
+trap_shows : (vector : ℕ) (b : Bool) (w : World) → DidShows w.calls (if b then Next w else Halt (outcome.Faulted vector 0 w.mem w.calls))
 trap_shows vector true w = begins_self w.calls
 trap_shows vector false w = begins_self w.calls
 
@@ -318,8 +323,8 @@ trap_shows vector false w = begins_self w.calls
 pub effects : EffectsAreRuns
 effects = record {
   setting_is = λ n x w. begins_self w.calls;
-  loading_is = λ n width at w. begins_self w.calls;
-  storing_is = λ width at x w. begins_self w.calls;
+  loading_is = λ n width at w. access_shows _ w _ (begins_self w.calls);
+  storing_is = λ width at x w. access_shows _ w _ (begins_self w.calls);
   calling_is = λ target w. answered_shows w.calls w.left _ w (_, refl);
   trapping_is = λ vector x w. trap_shows vector (nat_eq x 0) w;
   returning_is = λ w. begins_self w.calls;

@@ -1,5 +1,5 @@
 -- What each simple statement does in a world, once its words are evaluated.
-use Rattle.std.specs.Prelude.{ℕ, nat_eq, if◌then◌else◌, List, [], ◌∷◌, ◌++◌}
+use Rattle.std.specs.Prelude.{ℕ, nat_eq, if◌then◌else◌, List, [], ◌∷◌, ◌++◌, Option, Some, None}
 use Rattle.dream_words.specs.declared.machine.Width.{Width}
 use Rattle.dream_words.specs.declared.machine.Name.{Name}
 use Rattle.dream_words.specs.declared.outcome.Answer.{Answer}
@@ -7,6 +7,7 @@ use Rattle.dream_words.specs.declared.outcome.Call.{Call}
 use Rattle.dream_words.specs.declared.outcome.Outcome.{Outcome}
 use Rattle.dream_words.specs.declared.outcome.Outcome.TheVariants as outcome
 use Rattle.dream_words.specs.Memory.{load, store, bytes_of}
+use Rattle.dream_words.specs.Pages.{first_bad}
 use Rattle.run_parts.specs.Steps.{Did, Next, Halt}
 use Rattle.run_parts.specs.World.{World, with_name, regs_in, answered}
 
@@ -18,13 +19,19 @@ Doing = Did World Outcome
 abbrev pub set_word : Name → ℕ → World → World
 set_word n x w = record w { names = with_name w.names n x }
 
--- What follows a read of the bytes at an address. Every read is allowed.
-abbrev pub reading : ℕ → Width → World → Doing → Doing
-reading at width w next = next
+-- What follows an access whose first byte that isn't allowed is at an address: a page fault (Intel SDM vol. 3, 6.15,
+-- vector 14) with that address and the memory before it. Where there is no such byte, what comes next.
+abbrev pub allowing : Option ℕ → World → Doing → Doing
+allowing None w next = next
+allowing (Some bad) w next = Halt (outcome.Faulted 14 bad w.mem w.calls)
 
--- What follows a write to the bytes at an address. Every write is allowed.
+-- what follows a read of the bytes at an address
+abbrev pub reading : ℕ → Width → World → Doing → Doing
+reading at width w next = allowing (first_bad w.pages.read at (bytes_of width)) w next
+
+-- what follows a write to the bytes at an address
 abbrev pub writing : ℕ → Width → World → Doing → Doing
-writing at width w next = next
+writing at width w next = allowing (first_bad w.pages.write at (bytes_of width)) w next
 
 -- a name is set to a word
 abbrev pub setting : Name → ℕ → World → Doing
@@ -47,6 +54,6 @@ answered_by (a ∷ rest) calls w = Next (record w { names = answered a w.names; 
 abbrev pub calling : ℕ → World → Doing
 calling target w = answered_by w.left (w.calls ++ record { target = target; regs = regs_in w.names; mem = w.mem } ∷ []) w
 
--- the fault of a vector comes where the word isn't 0
+-- the fault of a vector comes where the word isn't 0; it tells no address
 abbrev pub trapping : ℕ → ℕ → World → Doing
-trapping vector x w = if nat_eq x 0 then Next w else Halt (outcome.Faulted vector w.mem w.calls)
+trapping vector x w = if nat_eq x 0 then Next w else Halt (outcome.Faulted vector 0 w.mem w.calls)

@@ -17,7 +17,7 @@ Begins xs ys = (zs : List Call) × (ys ≡ xs ++ zs)
 -- The calls of an outcome begin with these. An outcome that tells no calls tells nothing here.
 abbrev pub OutcomeShows : List Call → Outcome → Type 0
 OutcomeShows c (outcome.Returned r m calls) = Begins c calls
-OutcomeShows c (outcome.Faulted v m calls) = Begins c calls
+OutcomeShows c (outcome.Faulted v a m calls) = Begins c calls
 OutcomeShows c (outcome.Asking calls) = Begins c calls
 OutcomeShows c (outcome.Going calls) = Begins c calls
 OutcomeShows c outcome.Strayed = Unit {0}

@@ -1,6 +1,7 @@
 -- Where a run stands.
 use Rattle.std.specs.Prelude.{ℕ, nat_eq, nat_lt, ◌&&◌, if◌then◌else◌, List, []}
 use Rattle.dream_words.specs.declared.machine.Regs.{Regs}
+use Rattle.dream_words.specs.declared.pages.Pages.{Pages}
 use Rattle.dream_words.specs.declared.machine.Name.{Name}
 use Rattle.dream_words.specs.declared.machine.Name.TheVariants.{Reg, Flag, Fs, Gs, T, B, S}
 use Rattle.dream_words.specs.declared.outcome.Start.{Start}
@@ -54,16 +55,18 @@ start_names s Fs = s.fs
 start_names s Gs = s.gs
 start_names s n = 0
 
--- Where a run stands: the words of the names, the memory, the answers that are left and the calls so far.
+-- Where a run stands: the words of the names, the memory, the pages that may be accessed, which no statement changes,
+-- the answers that are left and the calls so far.
 pub record World : Type 0 where
   pub names : Names
   pub mem : Mem
+  pub pages : Pages
   pub left : List Answer
   pub calls : List Call
 
 -- where a run starts
 abbrev pub start_world : Start → List Answer → World
-start_world s answers = record { names = start_names s; mem = s.mem; left = answers; calls = [] }
+start_world s answers = record { names = start_names s; mem = s.mem; pages = s.pages; left = answers; calls = [] }
 
 -- the function returns
 abbrev pub returned : World → Outcome

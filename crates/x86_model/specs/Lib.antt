@@ -7,5 +7,6 @@ pub mod Meaning
 pub mod Reads
 pub mod Machine
 pub mod Leads
+pub mod Undefined
 pub mod Successors
 pub mod Laws
