@@ -9,13 +9,13 @@ use Rattle.dream_words.specs.declared.outcome.Answer.{Answer}
 use Rattle.dream_words.specs.Memory.{Mem, byte_at}
 use Rattle.dream_words.specs.Same.{IsGoing}
 use Rattle.x86_inst.specs.declared.Inst.{Inst}
-use Rattle.x86_model.specs.declared.effect.Effect.{Effect}
 use Rattle.x86_model.specs.declared.effect.Go.{Go}
 use Rattle.x86_model.specs.declared.effect.Go.TheVariants as go
 use Rattle.x86_model.specs.Machine.{State}
-use Rattle.x86_model.specs.Leads.{stored}
+use Rattle.x86_model.specs.Leads.{stored, step_of, effect_in}
+use Rattle.x86_model.specs.Undefined.{reads_undefined, searches_zero}
 use Rattle.machine.specs.Code.{Decodes}
-use Rattle.machine.specs.Run.{Scene, is_indirect, strays, machine_run}
+use Rattle.machine.specs.Run.{Scene, is_indirect, reads_allowed, is_allowed, strays, machine_run}
 
 -- Every range has its instructions.
 abbrev pub EveryRangeDecodes : Type 0
@@ -43,14 +43,26 @@ pub record IsMiddle (sc : Scene) (i : Inst) (a : ℕ) : Type 0 where
   pub inside : is_inside sc.range a ≡ true
   pub other : a ≡ sc.range.entry → ⊥
 
--- the step strays by where it goes
-pub data GoStrays (sc : Scene) (i : Inst) (m : State) : Go → Type 0 where
-  call : (a : ℕ) → AnswerBreaks sc m.left m.mem ⊎ IsMiddle sc i a → GoStrays sc i m (go.CallTo a)
-  leave : (a : ℕ) → AnswerBreaks sc m.left m.mem ⊎ IsMiddle sc i a → GoStrays sc i m (go.LeaveTo a)
-  elsewhere : (m.regs.esp ≡ sc.slot → ⊥) → GoStrays sc i m go.Return
-  undefined : GoStrays sc i m go.Stray
+-- the step is a call of an address, and takes an answer
+pub data CallsTo (a : ℕ) : Go → Type 0 where
+  call : CallsTo a (go.CallTo a)
+  leave : CallsTo a (go.LeaveTo a)
 
--- A step strays exactly where its store breaks the memory or it strays by where it goes.
+-- Why a step strays, by the instruction, the next address and the state.
+pub data Straying (sc : Scene) (i : Inst) (next : ℕ) (m : State) : Type 0 where
+  -- its store changes a byte that must stay, and no access of it is refused
+  store : is_allowed i m (effect_in i next m) ≡ true → Breaks sc.image sc.slot m.mem (stored m.mem (effect_in i next m).store) → Straying sc i next m
+  -- its answer does
+  answer : is_allowed i m (effect_in i next m) ≡ true → (a : ℕ) → CallsTo a (effect_in i next m).go → AnswerBreaks sc m.left m.mem → Straying sc i next m
+  -- it is a return at an ESP other than the slot
+  elsewhere : (effect_in i next m).go ≡ go.Return → (m.regs.esp ≡ sc.slot → ⊥) → Straying sc i next m
+  -- it reads an undefined flag, whatever its accesses do
+  undefined : reads_undefined i m.flags ≡ true → Straying sc i next m
+  -- it searches 0 for a bit, and no read of it is refused
+  search : reads_allowed i m ≡ true → searches_zero i (step_of i next m) ≡ true → Straying sc i next m
+  -- it is an indirect call or jump into the middle of the range, and no read of it is refused
+  middle : reads_allowed i m ≡ true → (a : ℕ) → CallsTo a (effect_in i next m).go → IsMiddle sc i a → Straying sc i next m
+
+-- A step strays exactly where it has a reason to.
 abbrev pub StrayingIsExact : Type 0
-StrayingIsExact = (sc : Scene) (i : Inst) (m : State) (e : Effect)
-    → (strays sc i m e ≡ true) ↔ (Breaks sc.image sc.slot m.mem (stored m.mem e.store) ⊎ GoStrays sc i m e.go)
+StrayingIsExact = (sc : Scene) (i : Inst) (next : ℕ) (m : State) → (strays sc i m (effect_in i next m) ≡ true) ↔ Straying sc i next m

@@ -1,5 +1,5 @@
 -- The machine's run: from any start, with any list of answers, one instruction a step.
-use Rattle.std.specs.Prelude.{◌≡◌, ℕ, ◌+◌, ◌%◌, ◌^◌, ◌<◌, Bool, true, false, not, ◌&&◌, ◌||◌, ◌==◌, List, [], ◌∷◌, Option, Some, None, if◌then◌else◌}
+use Rattle.std.specs.Prelude.{◌≡◌, ℕ, ◌+◌, ◌%◌, ◌^◌, ◌<◌, Bool, true, false, not, ◌&&◌, ◌||◌, ◌==◌, List, [], ◌∷◌, Option, Some, None, is_none, if◌then◌else◌}
 use Rattle.elf_image.specs.declared.image.Segment.{Segment}
 use Rattle.elf_image.specs.declared.range.Range.{Range}
 use Rattle.elf_image.specs.Image.{frozen_byte}
@@ -16,7 +16,8 @@ use Rattle.x86_model.specs.declared.effect.Effect.{Effect}
 use Rattle.x86_model.specs.declared.effect.Go.{Go}
 use Rattle.x86_model.specs.declared.effect.Go.TheVariants as go
 use Rattle.x86_model.specs.Machine.{Onward, At, Finished, Strays, Blank, State, Ending, ending_outcome}
-use Rattle.x86_model.specs.Leads.{leads, stored, step_does, effect_in}
+use Rattle.x86_model.specs.Leads.{leads, stored, instruction_does, effect_in, refused_read, refused_store}
+use Rattle.x86_model.specs.Undefined.{reads_undefined}
 use Rattle.machine.specs.Steps.{judged, steps}
 use Rattle.machine.specs.Code.{is_broken}
 
@@ -44,26 +45,50 @@ is_indirect _ = false
 abbrev pub is_middle : Scene → Inst → ℕ → Bool
 is_middle sc i a = is_indirect i && (is_inside sc.range a && not (a == sc.range.entry))
 
--- the step strays by where it goes
-abbrev pub strays_in : Scene → Inst → State → Go → Bool
-strays_in sc i m (go.CallTo a) = answer_breaks sc m.left m.mem || is_middle sc i a
-strays_in sc i m (go.LeaveTo a) = answer_breaks sc m.left m.mem || is_middle sc i a
-strays_in sc i m go.Return = not (m.regs.esp == sc.slot)
-strays_in sc i m go.Next = false
-strays_in sc i m go.Again = false
-strays_in sc i m (go.To a) = false
-strays_in sc i m (go.Fault v) = false
-strays_in sc i m go.Stray = true
+-- no read of a step is refused
+abbrev pub reads_allowed : Inst → State → Bool
+reads_allowed i m = is_none (refused_read i m)
 
--- A step strays where its store, or its answer, changes a frozen byte or the return slot; where it is a return with ESP
--- elsewhere than at the slot; where it reads an undefined flag or scans 0 for a bit (`Stray`); and where it is an indirect
--- call or jump into the middle of the range.
+-- no access of a step with an effect is refused
+abbrev pub is_allowed : Inst → State → Effect → Bool
+is_allowed i m e = reads_allowed i m && is_none (refused_store e m)
+
+-- the step is a call, and takes an answer that changes a byte that must stay
+abbrev pub takes_broken : Scene → State → Go → Bool
+takes_broken sc m (go.CallTo a) = answer_breaks sc m.left m.mem
+takes_broken sc m (go.LeaveTo a) = answer_breaks sc m.left m.mem
+takes_broken sc m _ = false
+
+-- the step goes by a word into the middle of the range
+abbrev pub goes_middle : Scene → Inst → Go → Bool
+goes_middle sc i (go.CallTo a) = is_middle sc i a
+goes_middle sc i (go.LeaveTo a) = is_middle sc i a
+goes_middle sc i _ = false
+
+-- the step returns with ESP elsewhere than at the slot
+abbrev pub returns_elsewhere : Scene → State → Go → Bool
+returns_elsewhere sc m go.Return = not (m.regs.esp == sc.slot)
+returns_elsewhere sc m _ = false
+
+-- the effect is a stray
+abbrev pub is_stray : Go → Bool
+is_stray go.Stray = true
+is_stray _ = false
+
+-- A step strays where its store or its answer changes a frozen byte or the return slot, and no access of it is refused;
+-- where it is a return with ESP elsewhere than at the slot; where it reads an undefined flag, whatever its accesses do;
+-- and where it searches 0 for a bit, or is an indirect call or jump into the middle of the range, and no read of it is
+-- refused.
 abbrev pub strays : Scene → Inst → State → Effect → Bool
-strays sc i m e = is_broken sc.image sc.slot m.mem (stored m.mem e.store) || strays_in sc i m e.go
+strays sc i m e =
+    (is_allowed i m e && (is_broken sc.image sc.slot m.mem (stored m.mem e.store) || takes_broken sc m e.go))
+    || (returns_elsewhere sc m e.go
+    || (reads_undefined i m.flags
+    || (reads_allowed i m && (is_stray e.go || goes_middle sc i e.go))))
 
--- The instruction has its effect, unless it strays.
+-- The instruction does what it does with the pages that may be accessed, unless it strays.
 abbrev pub acts : Scene → Inst → ℕ → ℕ → State → Onward State Ending
-acts sc i at next m = judged (strays sc i m (effect_in i next m)) (step_does (effect_in i next m) at next m)
+acts sc i at next m = judged (strays sc i m (effect_in i next m)) (instruction_does i at next m)
 
 -- the instruction at an address, with its length
 abbrev pub act : Scene → ℕ → State → Option (Inst × ℕ) → Onward State Ending
@@ -77,7 +102,7 @@ step_at sc at m = if is_inside sc.range at then act sc at m (sc.decoded at) else
 -- ---- runs
 
 abbrev pub start_state : Start → List Answer → State
-start_state start answers = record { regs = start.regs; flags = start.flags; fs = start.fs; gs = start.gs; mem = start.mem; left = answers; calls = [] }
+start_state start answers = record { regs = start.regs; flags = start.flags; fs = start.fs; gs = start.gs; mem = start.mem; pages = start.pages; left = answers; calls = [] }
 
 abbrev pub outcome_of : Onward State Ending → Outcome
 outcome_of (At a m) = outcome.Going m.calls
@@ -93,7 +118,7 @@ abbrev pub machine_run : List Segment → Range → (ℕ → Option (Inst × ℕ
 machine_run m r decoded start answers n =
     outcome_of (steps State Ending (step_at (scene_of m r decoded start)) n r.entry (start_state start answers))
 
--- A state to start from: any words, any flags, and any memory that has the frozen bytes of the image.
+-- A state to start from: any words, any flags, any pages, and any memory that has the frozen bytes of the image.
 pub record IsStart (m : List Segment) (start : Start) : Type 0 where
   pub regs : AreWords start.regs
   pub fs : start.fs < 2 ^ 32

@@ -4,10 +4,12 @@ use Rattle.dream_words.specs.declared.outcome.Answer.{Answer}
 use Rattle.dream_words.specs.declared.outcome.Call.{Call}
 use Rattle.dream_words.specs.declared.outcome.Outcome.{Outcome}
 use Rattle.dream_words.specs.declared.outcome.Outcome.TheVariants as outcome
+use Rattle.dream_words.specs.Memory.{load, store, bytes_of}
+use Rattle.dream_words.specs.Pages.{first_bad}
 use Rattle.run_parts.specs.Parts.{Exit, Past, Broke, Over, Stuck, Run, Ends, Goes, Part, Test, skip, leave_loop, goes_on, on, after, seq, in_turn, decide, choose, first_arm, caught, catch_break, has, group_of, given, switch, round, turn, rounds, repeat}
 use Rattle.run_parts.specs.Steps.{Did, Next, Halt, Jam, having, done, simply, do_all, then_do}
 use Rattle.run_parts.specs.World.{World}
-use Rattle.run_parts.specs.Effects.{Doing, allowing, answered_by}
+use Rattle.run_parts.specs.Effects.{Doing, set_word, allowing, answered_by}
 use Rattle.run_parts.specs.Laws.{Begins, OutcomeShows, ExitShows, Shows, DidShows, Told, IsRun, AllRuns, AllArms, AllGroups, PartsAreRuns, EffectsAreRuns}
 
 -- runs and parts of a world
@@ -323,8 +325,8 @@ trap_shows vector false w = begins_self w.calls
 pub effects : EffectsAreRuns
 effects = record {
   setting_is = λ n x w. begins_self w.calls;
-  loading_is = λ n width at w. access_shows _ w _ (begins_self w.calls);
-  storing_is = λ width at x w. access_shows _ w _ (begins_self w.calls);
+  loading_is = λ n width at w. access_shows (first_bad w.pages.read at (bytes_of width)) w (Next (set_word n (load w.mem at (bytes_of width)) w)) (begins_self w.calls);
+  storing_is = λ width at x w. access_shows (first_bad w.pages.write at (bytes_of width)) w (Next (record w { mem = store w.mem at (bytes_of width) x })) (begins_self w.calls);
   calling_is = λ target w. answered_shows w.calls w.left _ w (_, refl);
   trapping_is = λ vector x w. trap_shows vector (nat_eq x 0) w;
   returning_is = λ w. begins_self w.calls;

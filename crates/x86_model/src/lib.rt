@@ -19,5 +19,5 @@ mod strings;
 mod tests;
 
 pub use effect::{Access, Effect, Go, Reads, Step, Stored};
-pub use laws::{conditions_are_opposite, parts_are_apart, product_overflows_by_halves};
+pub use laws::{conditions_are_opposite, parts_are_apart, product_overflows_by_halves, strays_so};
 pub use meaning::{apply, wants};
