@@ -1,10 +1,12 @@
 -- What is known of the names while the statements of a block run: they show what the step begins with.
-use Rattle.std.specs.Prelude.{◌≡◌, ℕ, ◌^◌, ◌<◌, ◌≤◌, true, List}
+use Rattle.std.specs.Prelude.{◌≡◌, ℕ, ◌^◌, ◌<◌, ◌≤◌, true, List, Option, Some, None}
 use Rattle.dream_words.specs.declared.machine.Name.{Name}
 use Rattle.dream_words.specs.declared.machine.Name.TheVariants as name
 use Rattle.dream_words.specs.Words.{low_part}
-use Rattle.run_parts.specs.Steps.{Next}
+use Rattle.dream_words.specs.declared.outcome.Outcome.TheVariants as outcome
+use Rattle.run_parts.specs.Steps.{Next, Halt}
 use Rattle.run_parts.specs.World.{Names, World, regs_in}
+use Rattle.run_parts.specs.Effects.{allowing}
 use Rattle.x86_inst.specs.declared.Size.{Size}
 use Rattle.x86_inst.specs.declared.Operand.{Operand}
 use Rattle.x86_model.specs.declared.effect.Step.{Step}
@@ -31,3 +33,13 @@ pub record ShowsRead (size : Size) (o : Operand) (a : Step) (v : Names) : Type 0
 -- statements lead from one world to another
 pub record Runs (stmts : List Stmt) (w u : World) : Type 0 where
   pub runs : stmts_do stmts w ≡ Next u
+
+-- Statements lead from one world to another, unless an access of theirs is refused at an address: then they end with its
+-- fault, and the memory and the calls are those from which they began.
+pub record RunsTo (bad : Option ℕ) (stmts : List Stmt) (w u : World) : Type 0 where
+  pub runs : stmts_do stmts w ≡ allowing bad w (Next u)
+
+-- where an access is refused at an address, statements end with its fault; else nothing is said of them
+abbrev pub Faults : Option ℕ → List Stmt → World → Type 0
+Faults None stmts w = Unit {0}
+Faults (Some bad) stmts w = stmts_do stmts w ≡ Halt (outcome.Faulted 14 bad w.mem w.calls)

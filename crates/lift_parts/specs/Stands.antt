@@ -28,6 +28,7 @@ pub record Stands (m : State) (w : World) : Type 0 where
   pub fs : m.fs ≡ w.names name.Fs
   pub gs : m.gs ≡ w.names name.Gs
   pub mem : m.mem ≡ w.mem
+  pub pages : m.pages ≡ w.pages
   pub left : m.left ≡ w.left
   pub calls : m.calls ≡ w.calls
 
@@ -39,6 +40,7 @@ state_in w f = record {
   fs = w.names name.Fs;
   gs = w.names name.Gs;
   mem = w.mem;
+  pages = w.pages;
   left = w.left;
   calls = w.calls;
 }
