@@ -13,7 +13,7 @@ use Rattle.c_syntax.specs.Run.{c_run}
 abbrev pub Continues : Outcome → Outcome → Type 0
 Continues (Going calls) o = OutcomeShows calls o
 Continues (Returned r m c) o = o ≡ Returned r m c
-Continues (Faulted v m c) o = o ≡ Faulted v m c
+Continues (Faulted v a m c) o = o ≡ Faulted v a m c
 Continues (Asking c) o = o ≡ Asking c
 Continues Strayed o = o ≡ Strayed
 Continues Undecoded o = o ≡ Undecoded
