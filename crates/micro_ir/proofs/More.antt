@@ -64,7 +64,7 @@ calls_later blocks j k n m w u e = subst (ArriveShows u.calls) (sym (more_from b
 
 continues_self : (o : Outcome) → Continues o o
 continues_self (outcome.Returned r m c) = refl
-continues_self (outcome.Faulted v m c) = refl
+continues_self (outcome.Faulted v a m c) = refl
 continues_self (outcome.Asking c) = refl
 continues_self (outcome.Going c) = begins_self c
 continues_self outcome.Strayed = refl

@@ -12,13 +12,14 @@ use Rattle.dream_words.specs.declared.machine.Bit.TheVariants.{Zero, One, Undefi
 use Rattle.dream_words.specs.declared.outcome.Start.{Start}
 use Rattle.dream_words.specs.declared.outcome.Answer.{Answer}
 use Rattle.dream_words.specs.declared.outcome.Call.{Call}
-use Rattle.dream_words.specs.Memory.{Mem, load, bytes_of}
+use Rattle.dream_words.specs.Memory.{Mem, load, store, bytes_of}
+use Rattle.dream_words.specs.Pages.{first_bad}
 use Rattle.dream_words.specs.Ranges.{AreWords, AreBytes, IsAnswer, AreAnswers}
 use Rattle.dream_words.specs.Registers.{reg_of, flag_of, word_of_bit}
 use Rattle.dream_words.proofs.Memories.{AreBytes-store, load-lt}
 use Rattle.run_parts.specs.Steps.{Next, Halt, Jam, To, End, Nowhere, having, then_do, arrive}
 use Rattle.run_parts.specs.World.{World, Names, with_name, answered, start_names, start_world}
-use Rattle.run_parts.specs.Effects.{Doing, set_word, answered_by, calling}
+use Rattle.run_parts.specs.Effects.{Doing, set_word, allowing, loading, storing, answered_by, calling}
 use Rattle.c_syntax.specs.declared.syntax.CExpr.{CExpr}
 use Rattle.c_syntax.specs.Run.{word_in, holds, does_ext}
 use Rattle.micro_ir.specs.declared.flow.Case.{Case}
@@ -123,6 +124,26 @@ load_small width.B m at h = let l = load-lt m at 1 h in omega (arith, l)
 load_small width.H m at h = let l = load-lt m at 2 h in omega (arith, l)
 load_small width.W m at h = let l = load-lt m at 4 h in omega (arith, l)
 
+-- an access, which may fault
+allowed_stays : (bad : Option ℕ) (w : World) (d : Doing) → DidStays d → DidStays (allowing bad w d)
+allowed_stays None w d h = h
+allowed_stays (Some a) w d h = tt
+
+pub load_stays : (k : Name) (wide : Width) (at : ℕ) (w : World) → IsWorld w → DidStays (loading k wide at w)
+load_stays k wide at w h =
+    allowed_stays (first_bad w.pages.read at (bytes_of wide)) w (Next (set_word k (load w.mem at (bytes_of wide)) w))
+    (set_stays w k (load w.mem at (bytes_of wide)) h (load_small wide w.mem at h.bytes))
+
+pub store_stays : (wide : Width) (at x : ℕ) (w : World) → IsWorld w → DidStays (storing wide at x w)
+store_stays wide at x w h =
+    allowed_stays (first_bad w.pages.write at (bytes_of wide)) w (Next (record w { mem = store w.mem at (bytes_of wide) x })) (record {
+      words = h.words;
+      no_register = h.no_register;
+      no_flag = h.no_flag;
+      bytes = AreBytes-store w.mem at (bytes_of wide) x h.bytes;
+      answers = h.answers;
+    })
+
 trap_stays : (b : Bool) (w : World) (o : _) → IsWorld w → DidStays (cond b (Next w) (Halt o))
 trap_stays true w o h = h
 trap_stays false w o h = tt
@@ -138,16 +159,10 @@ value_is a w t h = value_small a (both_true _ _ t).0 w.names h.words
 pub stmt_stays : (s : Stmt) (w : World) → IsTrue (is_flow_stmt s) → IsWorld w → DidStays (stmt_does s w)
 stmt_stays (stmt.Set k a) w t h = having_stays (word_in a w) _ (value_is a w (both_true (is_flow_target k) (is_flow_word a) t).1 h) (λ x l. set_stays w k x h l)
 stmt_stays (stmt.Load k wide a) w t h =
-    having_stays (word_in a w) _ (value_is a w (both_true (is_flow_target k) (is_flow_word a) t).1 h) (λ at l. set_stays w k (load w.mem at (bytes_of wide)) h (load_small wide w.mem at h.bytes))
+    having_stays (word_in a w) _ (value_is a w (both_true (is_flow_target k) (is_flow_word a) t).1 h) (λ at l. load_stays k wide at w h)
 stmt_stays (stmt.Store wide a b) w t h =
     let p = both_true (is_flow_word a) (is_flow_word b) t in
-    having_stays (word_in a w) _ (value_is a w p.0 h) (λ at l. having_stays (word_in b w) _ (value_is b w p.1 h) (λ x k. record {
-      words = h.words;
-      no_register = h.no_register;
-      no_flag = h.no_flag;
-      bytes = AreBytes-store w.mem at (bytes_of wide) x h.bytes;
-      answers = h.answers;
-    }))
+    having_stays (word_in a w) _ (value_is a w p.0 h) (λ at l. having_stays (word_in b w) _ (value_is b w p.1 h) (λ x k. store_stays wide at x w h))
 stmt_stays (stmt.Ext a) w t h = having_stays (word_in a w) _ (value_is a w t h) (λ target l. call_stays target w h)
 stmt_stays (stmt.Trap vector a) w t h = having_stays (word_in a w) _ (value_is a w (both_true _ (is_flow_word a) t).1 h) (λ x l. trap_stays (nat_eq x 0) w _ h)
 
