@@ -12,10 +12,10 @@ use Rattle.x86_model.specs.declared.effect.Effect.{Effect}
 use Rattle.x86_model.specs.declared.effect.Go.TheVariants as go
 use Rattle.x86_model.specs.Machine.{Onward, Blank, State, Ending}
 use Rattle.x86_model.specs.Leads.{leads, stored, after, effect_in}
-use Rattle.x86_model.specs.Undefined.{reads_undefined}
+use Rattle.x86_model.specs.Undefined.{reads_undefined, is_stray}
 use Rattle.machine.specs.Steps.{judged, steps}
 use Rattle.machine.specs.Code.{is_broken}
-use Rattle.machine.specs.Run.{Scene, scene_of, start_state, outcome_of, answer_breaks, takes_broken, goes_middle, returns_elsewhere, is_stray, machine_run}
+use Rattle.machine.specs.Run.{Scene, scene_of, start_state, outcome_of, answer_breaks, takes_broken, goes_middle, returns_elsewhere, machine_run}
 
 -- A step strays where its store or its answer changes a frozen byte or the return slot, where it is a return with ESP
 -- elsewhere than at the slot, where it reads an undefined flag or searches 0 for a bit, and where it is an indirect call or

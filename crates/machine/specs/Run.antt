@@ -17,7 +17,7 @@ use Rattle.x86_model.specs.declared.effect.Go.{Go}
 use Rattle.x86_model.specs.declared.effect.Go.TheVariants as go
 use Rattle.x86_model.specs.Machine.{Onward, At, Finished, Strays, Blank, State, Ending, ending_outcome}
 use Rattle.x86_model.specs.Leads.{leads, stored, instruction_does, effect_in, refused_read, refused_store}
-use Rattle.x86_model.specs.Undefined.{reads_undefined}
+use Rattle.x86_model.specs.Undefined.{reads_undefined, is_stray}
 use Rattle.machine.specs.Steps.{judged, steps}
 use Rattle.machine.specs.Code.{is_broken}
 
@@ -69,11 +69,6 @@ goes_middle sc i _ = false
 abbrev pub returns_elsewhere : Scene → State → Go → Bool
 returns_elsewhere sc m go.Return = not (m.regs.esp == sc.slot)
 returns_elsewhere sc m _ = false
-
--- the effect is a stray
-abbrev pub is_stray : Go → Bool
-is_stray go.Stray = true
-is_stray _ = false
 
 -- A step strays where its store or its answer changes a frozen byte or the return slot, and no access of it is refused;
 -- where it is a return with ESP elsewhere than at the slot; where it reads an undefined flag, whatever its accesses do;

@@ -1,4 +1,5 @@
 pub mod Halves
 pub mod Merge
 pub mod Parts
+pub mod Strays
 mod Sums

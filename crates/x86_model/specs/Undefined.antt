@@ -1,5 +1,5 @@
 -- Which flags each instruction reads (Intel SDM vol. 1, appendix A), and when one of them is undefined.
-use Rattle.std.specs.Prelude.{ℕ, ◌%◌, ◌/◌, ◌==◌, ◌&&◌, ◌||◌, Bool, true, false, List, [], ◌∷◌, if◌then◌else◌}
+use Rattle.std.specs.Prelude.{ℕ, ◌%◌, ◌/◌, ◌==◌, ◌||◌, Bool, true, false, List, [], ◌∷◌, if◌then◌else◌}
 use Rattle.x86_inst.specs.declared.Inst.{Inst}
 use Rattle.x86_inst.specs.declared.Inst.TheVariants as i
 use Rattle.x86_inst.specs.declared.AluOp.{AluOp}
@@ -10,6 +10,8 @@ use Rattle.dream_words.specs.declared.machine.Bit.{Bit}
 use Rattle.dream_words.specs.declared.machine.Bit.TheVariants.{Zero, One, Undefined}
 use Rattle.dream_words.specs.declared.machine.Flags.{Flags}
 use Rattle.x86_model.specs.declared.effect.Step.{Step}
+use Rattle.x86_model.specs.declared.effect.Go.{Go}
+use Rattle.x86_model.specs.declared.effect.Go.TheVariants as go
 use Rattle.x86_model.specs.Operands.{value_of}
 
 -- The flags of a condition, by its number (Intel SDM vol. 1, appendix B): O and NO, B and NB, E and NE, BE and NBE, S and
@@ -63,3 +65,8 @@ reads_undefined i f = some_undefined (flags_read i f)
 abbrev pub searches_zero : Inst → Step → Bool
 searches_zero (i.Scan up size d s tz) a = value_of size s a == 0
 searches_zero _ a = false
+
+-- the effect is a stray
+abbrev pub is_stray : Go → Bool
+is_stray go.Stray = true
+is_stray _ = false
