@@ -180,7 +180,7 @@ pub ends_stay : (f : Flow) (m : ℕ) (w : World) (b : Part) → (f ≡ flow.Next
 ends_stay flow.Next m w b h = absurd (h refl)
 ends_stay flow.Left m w b h = refl
 ends_stay (flow.Ends end.Returned) m w b h = refl
-ends_stay (flow.Ends (end.Faulted v)) m w b h = refl
+ends_stay (flow.Ends (end.Faulted v at)) m w b h = refl
 ends_stay (flow.Ends end.Asking) m w b h = refl
 ends_stay (flow.Ends end.Stuck) m w b h = refl
 ends_stay (flow.Ends end.Going) m w b h = refl
@@ -189,7 +189,7 @@ pub loop_ends : (f : Flow) (m : ℕ) (w : World) (again : Test) (next : Part) �
 loop_ends flow.Next m w again next h i = absurd (h refl)
 loop_ends flow.Left m w again next h i = absurd (i refl)
 loop_ends (flow.Ends end.Returned) m w again next h i = refl
-loop_ends (flow.Ends (end.Faulted v)) m w again next h i = refl
+loop_ends (flow.Ends (end.Faulted v at)) m w again next h i = refl
 loop_ends (flow.Ends end.Asking) m w again next h i = refl
 loop_ends (flow.Ends end.Stuck) m w again next h i = refl
 loop_ends (flow.Ends end.Going) m w again next h i = refl

@@ -38,11 +38,11 @@ length_more calls c = length-append calls (c ∷ [])
 
 -- an answered call
 answered_is : (answers : List Answer) (target m : ℕ) (s : State) (a : Answer) → drop (length s.calls) answers ≡ a ∷ drop (length s.calls + 1) answers
-    → Ends (Past (world_of (after_calls answers) (record { env = record s.env { regs = a.regs; flags = flag_words a.flags }; mem = a.mem; calls = s.calls ++ record { target = target; regs = s.env.regs; mem = s.mem } ∷ [] }))) m
+    → Ends (Past (world_of (after_calls answers) (record s { env = record s.env { regs = a.regs; flags = flag_words a.flags }; mem = a.mem; calls = s.calls ++ record { target = target; regs = s.env.regs; mem = s.mem } ∷ [] }))) m
     ≡ done (calling target (world_of (after_calls answers) s)) m
 answered_is answers target m s a e =
-    ap (λ (v : Names). Ends (Past (record { names = v; mem = a.mem; left = drop (length (s.calls ++ call ∷ [])) answers; calls = s.calls ++ call ∷ [] })) m) (fun_ext (names_answered s.env a))
-    ∙ ap (λ k. Ends (Past (record { names = answered a (names_of s.env); mem = a.mem; left = drop k answers; calls = s.calls ++ call ∷ [] })) m) (length_more s.calls call)
+    ap (λ (v : Names). Ends (Past (record (world_of (after_calls answers) s) { names = v; mem = a.mem; left = drop (length (s.calls ++ call ∷ [])) answers; calls = s.calls ++ call ∷ [] })) m) (fun_ext (names_answered s.env a))
+    ∙ ap (λ k. Ends (Past (record (world_of (after_calls answers) s) { names = answered a (names_of s.env); mem = a.mem; left = drop k answers; calls = s.calls ++ call ∷ [] })) m) (length_more s.calls call)
     ∙ ap (λ l. done (answered_by l (s.calls ++ call ∷ []) (world_of (after_calls answers) s)) m) (sym e)
   where
     call : Call
@@ -51,9 +51,9 @@ answered_is answers target m s a e =
 -- the same, where its parts are given
 pub answered_parts : (answers : List Answer) (target m : ℕ) (s : State) (a : Answer) (flags : FlagWords) (mem : Mem) (call : Call) (calls : List Call) → drop (length s.calls) answers ≡ a ∷ drop (length s.calls + 1) answers
     → flags ≡ flag_words a.flags → mem ≡ a.mem → calls ≡ s.calls ++ call ∷ [] → call ≡ record { target = target; regs = s.env.regs; mem = s.mem }
-    → Ends (Past (world_of (after_calls answers) (record { env = record s.env { regs = a.regs; flags = flags }; mem = mem; calls = calls }))) m ≡ done (calling target (world_of (after_calls answers) s)) m
+    → Ends (Past (world_of (after_calls answers) (record s { env = record s.env { regs = a.regs; flags = flags }; mem = mem; calls = calls }))) m ≡ done (calling target (world_of (after_calls answers) s)) m
 answered_parts answers target m s a flags mem call calls g ef em ec el =
-    ap (λ f. Ends (Past (world_of (after_calls answers) (record { env = record s.env { regs = a.regs; flags = f }; mem = mem; calls = calls }))) m) ef
-    ∙ ap (λ x. Ends (Past (world_of (after_calls answers) (record { env = record s.env { regs = a.regs; flags = flag_words a.flags }; mem = x; calls = calls }))) m) em
-    ∙ ap (λ x. Ends (Past (world_of (after_calls answers) (record { env = record s.env { regs = a.regs; flags = flag_words a.flags }; mem = a.mem; calls = x }))) m) (ec ∙ ap (λ l. s.calls ++ l ∷ []) el)
+    ap (λ f. Ends (Past (world_of (after_calls answers) (record s { env = record s.env { regs = a.regs; flags = f }; mem = mem; calls = calls }))) m) ef
+    ∙ ap (λ x. Ends (Past (world_of (after_calls answers) (record s { env = record s.env { regs = a.regs; flags = flag_words a.flags }; mem = x; calls = calls }))) m) em
+    ∙ ap (λ x. Ends (Past (world_of (after_calls answers) (record s { env = record s.env { regs = a.regs; flags = flag_words a.flags }; mem = a.mem; calls = x }))) m) (ec ∙ ap (λ l. s.calls ++ l ∷ []) el)
     ∙ answered_is answers target m s a g

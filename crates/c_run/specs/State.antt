@@ -34,7 +34,7 @@ after_calls answers calls = drop (length calls) answers
 
 -- The world that a state stands for. The answers that are left are those after the calls so far.
 abbrev pub world_of : Left → State → World
-world_of left s = record { names = names_of s.env; mem = s.mem; left = left s.calls; calls = s.calls }
+world_of left s = record { names = names_of s.env; mem = s.mem; pages = s.pages.now; left = left s.calls; calls = s.calls }
 
 -- a run of a part, in a world
 abbrev pub Run : Type 0
@@ -43,7 +43,7 @@ Run = AnyRun World Outcome
 -- the end of the whole run
 abbrev pub ends_at : End → ℕ → World → Run
 ends_at end.Returned m w = Ends (Over (returned w)) m
-ends_at (end.Faulted v) m w = Ends (Over (outcome.Faulted v w.mem w.calls)) m
+ends_at (end.Faulted v at) m w = Ends (Over (outcome.Faulted v at w.mem w.calls)) m
 ends_at end.Asking m w = Ends (Over (outcome.Asking w.calls)) m
 ends_at end.Stuck m w = Ends Stuck m
 ends_at end.Going m w = Goes w

@@ -20,7 +20,7 @@ pub(crate) trait Callees {
     ghost does: { Self → ℕ → Part };
 
     /// A call of a target, which may take turns.
-    fn call(&self, target: u32, turns: &mut u64, state: &mut State) -> Result<Flow, AllocError>
+    fn call(&self, target: u32, turns: &mut u64, state: &mut State<'_>) -> Result<Flow, AllocError>
         ensures value { IfOk result (λ flow.
             Does (does self.now target) (left self.now) turns.old state.old flow turns.new state.new) }
         ensures spends { turns.new ≤ turns.old };
@@ -37,7 +37,12 @@ impl Callees for Answered<'_> {
 
     ghost does = { λ callees. by_answers };
 
-    fn call(&self, target: u32, turns: &mut u64, state: &mut State) -> Result<Flow, AllocError> {
+    fn call(
+        &self,
+        target: u32,
+        turns: &mut u64,
+        state: &mut State<'_>,
+    ) -> Result<Flow, AllocError> {
         state.call(self.answers, target)
     }
 }
@@ -47,7 +52,7 @@ pub(crate) fn ext<H: Callees>(
     a: &CExpr,
     callees: &H,
     turns: &mut u64,
-    state: &mut State,
+    state: &mut State<'_>,
 ) -> Result<Flow, AllocError>
     ensures value { IfOk result (λ flow.
         Does (does_ext_by (H.does callees.now) a.now) (H.left callees.now)

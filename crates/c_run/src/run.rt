@@ -40,7 +40,7 @@ fn statement<H: Callees>(
     s: &CStmt,
     callees: &H,
     turns: &mut u64,
-    state: &mut State,
+    state: &mut State<'_>,
 ) -> Result<Flow, AllocError>
     ensures value { IfOk result (λ flow.
         Does (run_by (H.does callees.now) s.now) (H.left callees.now) turns.old state.old flow turns.new state.new) }
@@ -83,7 +83,7 @@ fn sequence<H: Callees>(
     body: &[CStmt],
     callees: &H,
     turns: &mut u64,
-    state: &mut State,
+    state: &mut State<'_>,
 ) -> Result<Flow, AllocError>
     ensures value { IfOk result (λ flow.
         Does (run_all_by (H.does callees.now) body.now) (H.left callees.now) turns.old state.old flow turns.new state.new) }
@@ -104,7 +104,7 @@ fn choose<H: Callees>(
     arms: &[CArm],
     callees: &H,
     turns: &mut u64,
-    state: &mut State,
+    state: &mut State<'_>,
 ) -> Result<Option<Flow>, AllocError>
     ensures value { IfOk result (λ o.
         DoesOr (first_arm (map (run_arm_by (H.does callees.now)) arms.now))
@@ -128,7 +128,7 @@ fn select<H: Callees>(
     x: u32,
     callees: &H,
     turns: &mut u64,
-    state: &mut State,
+    state: &mut State<'_>,
 ) -> Result<Option<Flow>, AllocError>
     ensures value { IfOk result (λ o.
         DoesOr (λ last. group_of (map (run_group_by (H.does callees.now)) groups.now) last x)
@@ -151,7 +151,7 @@ fn repeat<H: Callees>(
     again: Option<&CCond>,
     callees: &H,
     turns: &mut u64,
-    state: &mut State,
+    state: &mut State<'_>,
 ) -> Result<Flow, AllocError>
     ensures value { IfOk result (λ flow.
         Does (loop_by (H.does callees.now) (option_copied enter.entry) body.now (option_copied again.entry))

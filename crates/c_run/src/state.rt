@@ -6,20 +6,29 @@ ghost use Rattle.run_parts.specs.Parts.{on, caught};
 ghost use Rattle.run_parts.specs.World.{World, start_world, outcome_of};
 ghost use Rattle.run_parts.specs.Effects.{set_word, calling};
 ghost use Rattle.c_syntax.specs.Run.{does_set, does_load, does_store, does_trap};
+ghost use Rattle.c_run.specs.declared.state.End.TheVariants.{Faulted};
+ghost use Rattle.c_run.specs.declared.state.Flow.TheVariants.{Ends};
 ghost use Rattle.c_run.specs.State.{Left, after_calls, flag_words, world_of, leads, DoesSimply};
 
 use crate::env::{Env, FlagWords};
 use c_syntax::CExpr;
 use c_value::value;
-use dream_words::{Answer, Bit, Call, Flags, Memory, Name, Outcome, Start, Width};
+use dream_words::{
+    Answer, Bit, Call, Flags, Memory, Name, Outcome, Pages, Start, Width, first_bad,
+};
 use sqlite_items::Items;
 use std::alloc::{AllocError, Global};
 
-/// Where a run stands: what the names stand for, the memory, and the calls so far.
+/// The vector of a page fault (Intel SDM vol. 3, 6.15).
+const PAGE_FAULT: u32 = 14;
+
+/// Where a run stands: what the names stand for, the memory, the pages that may be accessed, and the
+/// calls so far.
 #[derive(Drop)]
-pub(crate) struct State {
+pub(crate) struct State<'a> {
     pub env: Env,
     pub mem: Memory,
+    pub pages: &'a Pages,
     pub calls: Items<Call>,
 }
 
@@ -27,8 +36,8 @@ pub(crate) struct State {
 #[derive(Clone, Copy)]
 pub(crate) enum End {
     Returned,
-    /// By the fault of a vector.
-    Faulted(u32),
+    /// By the fault of a vector. A page fault tells an address; `at` is else 0.
+    Faulted { vector: u32, at: u32 },
     Asking,
     Stuck,
     Going,
@@ -46,6 +55,16 @@ pub(crate) enum Flow {
 }
 
 impl Flow {
+    /// Into a page fault, which tells the address of the first byte that isn't allowed.
+    fn page_fault(at: u32) -> Flow
+        ensures { result ≡ Ends (Faulted 14 at) }
+    {
+        Flow::Ends(End::Faulted {
+            vector: PAGE_FAULT,
+            at,
+        })
+    }
+
     /// Where a switch leads whose body leads there.
     pub(crate) fn caught(self) -> Flow
         ensures { (m : ℕ) (w : World) → leads result m w ≡ on (leads self m w) caught }
@@ -80,9 +99,9 @@ fn flag_words(f: &Flags) -> FlagWords
     }
 }
 
-impl State {
+impl<'a> State<'a> {
     /// Where a run begins.
-    pub(crate) fn new(alloc: Global, start: &Start) -> Result<State, AllocError>
+    pub(crate) fn new(alloc: Global, start: &'a Start) -> Result<State<'a>, AllocError>
         ensures { IfOk result (λ s.
             (left : Left) → world_of left s ≡ start_world start.now (left [])) }
     {
@@ -98,6 +117,7 @@ impl State {
                 selectors: Items::new(alloc),
             },
             mem,
+            pages: &start.pages,
             calls: Items::new(alloc),
         })
     }
@@ -131,6 +151,9 @@ impl State {
         let Some(at) = value(a, &self.env) else {
             return Ok(Flow::Ends(End::Stuck));
         };
+        if let Some(bad) = first_bad(&self.pages.read, at, width) {
+            return Ok(Flow::page_fault(bad));
+        }
         let x = self.mem.load(at, width);
         self.assign(n, x)?;
         Ok(Flow::Next)
@@ -147,6 +170,9 @@ impl State {
         let Some(x) = value(b, &self.env) else {
             return Ok(Flow::Ends(End::Stuck));
         };
+        if let Some(bad) = first_bad(&self.pages.write, at, width) {
+            return Ok(Flow::page_fault(bad));
+        }
         self.mem.store(at, width, x)?;
         Ok(Flow::Next)
     }
@@ -178,15 +204,20 @@ impl State {
         match value(a, &self.env) {
             None => Flow::Ends(End::Stuck),
             Some(0) => Flow::Next,
-            Some(_) => Flow::Ends(End::Faulted(vector)),
+            Some(_) => Flow::Ends(End::Faulted { vector, at: 0 }),
         }
     }
 
     /// The outcome of a run that led there.
     pub(crate) fn outcome(self, flow: Flow) -> Outcome
-        ensures { (m : ℕ) (left : Left) → result ≡ outcome_of (leads flow m (world_of left self)) }
+        ensures { (m : ℕ) (left : Left) → result ≡ outcome_of (leads flow m (world_of left self.entry)) }
     {
-        let State { env, mem, calls } = self;
+        let State {
+            env,
+            mem,
+            calls,
+            ..
+        } = self;
         match flow {
             Flow::Next | Flow::Ends(End::Returned) => Outcome::Returned {
                 regs: env.regs,
@@ -194,7 +225,12 @@ impl State {
                 calls,
             },
             Flow::Left | Flow::Ends(End::Stuck) => Outcome::Stuck,
-            Flow::Ends(End::Faulted(vector)) => Outcome::Faulted { vector, mem, calls },
+            Flow::Ends(End::Faulted { vector, at }) => Outcome::Faulted {
+                vector,
+                at,
+                mem,
+                calls,
+            },
             Flow::Ends(End::Asking) => Outcome::Asking { calls },
             Flow::Ends(End::Going) => Outcome::Going { calls },
         }

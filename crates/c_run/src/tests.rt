@@ -2,7 +2,7 @@
 
 use crate::run_c;
 use c_syntax::*;
-use dream_words::{Answer, Bit, Flags, Memory, Name, Outcome, Regs, Start, Width};
+use dream_words::{Answer, Bit, Flags, Memory, Name, Outcome, Pages, Regs, Start, Width};
 use sqlite_items::{Boxed, Items};
 use std::alloc::{AllocError, Global};
 use std::test::Fail;
@@ -18,6 +18,7 @@ pub(crate) fn start(alloc: Global) -> Result<Start, AllocError> {
         fs: 0,
         gs: 0,
         mem,
+        pages: Pages::all(alloc)?,
     })
 }
 
