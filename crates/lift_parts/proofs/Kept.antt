@@ -12,11 +12,11 @@ use Rattle.x86_inst.specs.declared.Operand.TheVariants as o
 use Rattle.x86_model.specs.declared.effect.Step.{Step}
 use Rattle.x86_model.specs.Operands.{bits_of, width_of, address_of}
 use Rattle.x86_model.specs.Reads.{operand_read, pair_read}
-use Rattle.x86_model.specs.Leads.{read_by}
+use Rattle.x86_model.specs.Leads.{read_by, refused}
 use Rattle.lift_parts.specs.Parts.{address_word, reads, pair_reads}
-use Rattle.lift_parts.specs.Shown.{AreNames, Shows, ShowsRead, Runs}
+use Rattle.lift_parts.specs.Shown.{AreNames, Shows, ShowsRead, RunsTo}
 use Rattle.lift_parts.specs.Stands.{StandsFor, FlagsStand}
-use Rattle.lift_parts.proofs.Chains.{none_run, load_runs}
+use Rattle.lift_parts.proofs.Chains.{none_run, load_runs, runs_allowed}
 use Rattle.lift_parts.proofs.Values.{address_is, load_fits, load_low, word_fits}
 use Rattle.lift_parts.proofs.Writes.{names_set}
 
@@ -59,6 +59,7 @@ pub record AfterRead (a : Step) (w u : World) : Type 0 where
   pub fs : u.names name.Fs ≡ w.names name.Fs
   pub gs : u.names name.Gs ≡ w.names name.Gs
   pub mem : u.mem ≡ w.mem
+  pub pages : u.pages ≡ w.pages
   pub left : u.left ≡ w.left
   pub calls : u.calls ≡ w.calls
 
@@ -72,6 +73,7 @@ nothing_read a w h s = record {
   fs = refl;
   gs = refl;
   mem = refl;
+  pages = refl;
   left = refl;
   calls = refl;
 }
@@ -79,9 +81,9 @@ nothing_read a w h s = record {
 -- the word that an operand reads is the first of the step
 pub reads_run : (size : Size) (o : Operand) (a : Step) (w : World) → AreNames w.names → AreBytes w.mem → Shows a w.names
     → a.first ≡ read_by (operand_read size o a.regs a.fs a.gs) w.mem
-    → (u : World) × Runs (reads size o) w u × AfterRead a w u × ShowsRead size o a u.names
-reads_run size (o.Reg n) a w h b s r = (w, none_run w, nothing_read a w h s, record { read = λ e. let no : ⊥ = cc in absurd no })
-reads_run size (o.Imm k) a w h b s r = (w, none_run w, nothing_read a w h s, record { read = λ e. let no : ⊥ = cc in absurd no })
+    → (u : World) × RunsTo (refused w.pages.read (operand_read size o a.regs a.fs a.gs)) (reads size o) w u × AfterRead a w u × ShowsRead size o a u.names
+reads_run size (o.Reg n) a w h b s r = (w, runs_allowed (none_run w), nothing_read a w h s, record { read = λ e. let no : ⊥ = cc in absurd no })
+reads_run size (o.Imm k) a w h b s r = (w, runs_allowed (none_run w), nothing_read a w h s, record { read = λ e. let no : ⊥ = cc in absurd no })
 reads_run size (o.Mem m) a w h b s r =
     let at : ℕ = address_of m a.regs a.fs a.gs in
     let x : ℕ = load w.mem at (bytes_of (width_of size)) in (
@@ -95,6 +97,7 @@ reads_run size (o.Mem m) a w h b s r =
         fs = refl;
         gs = refl;
         mem = refl;
+        pages = refl;
         left = refl;
         calls = refl;
       },
@@ -104,7 +107,7 @@ reads_run size (o.Mem m) a w h b s r =
 -- of two operands the one that is memory is read
 pub pair_reads_run : (size : Size) (d s : Operand) (a : Step) (w : World) → AreNames w.names → AreBytes w.mem → Shows a w.names
     → a.first ≡ read_by (pair_read size d s a.regs a.fs a.gs) w.mem
-    → (u : World) × Runs (pair_reads size d s) w u × AfterRead a w u × ShowsRead size d a u.names × ShowsRead size s a u.names
+    → (u : World) × RunsTo (refused w.pages.read (pair_read size d s a.regs a.fs a.gs)) (pair_reads size d s) w u × AfterRead a w u × ShowsRead size d a u.names × ShowsRead size s a u.names
 pair_reads_run size (o.Mem m) s a w h b k r =
     let (u, runs, after, shown) = reads_run size (o.Mem m) a w h b k r in
     (u, runs, after, shown, record { read = λ e. shown.read refl })

@@ -1,12 +1,14 @@
 -- A block whose words are safe is never stuck.
-use Rattle.std.proofs.Common.{ℕ, ◌<◌, nat_lt, nat_eq, Bool, true, false, if◌then◌else◌, List, [], ◌∷◌, Some, sym, subst}
+use Rattle.std.proofs.Common.{ℕ, ◌<◌, nat_lt, nat_eq, Bool, true, false, if◌then◌else◌, List, [], ◌∷◌, Option, Some, None, sym, subst}
 use Rattle.std.specs.Prelude.{IsTrue}
 use Rattle.std.proofs.lemmas.Bool.{false≢true, ltb-true}
 use Rattle.dream_words.specs.declared.outcome.Answer.{Answer}
 use Rattle.dream_words.specs.declared.outcome.Call.{Call}
 use Rattle.dream_words.specs.declared.outcome.Outcome.{Outcome}
+use Rattle.dream_words.specs.Memory.{bytes_of}
+use Rattle.dream_words.specs.Pages.{first_bad}
 use Rattle.run_parts.specs.World.{World}
-use Rattle.run_parts.specs.Effects.{Doing, answered_by, calling}
+use Rattle.run_parts.specs.Effects.{Doing, allowing, answered_by, calling}
 use Rattle.run_parts.specs.Steps.{Next, Halt, Jam, having, then_do, To, End, Nowhere, arrive}
 use Rattle.c_syntax.specs.declared.syntax.CExpr.{CExpr}
 use Rattle.c_syntax.specs.Run.{word_in, does_ext}
@@ -36,28 +38,32 @@ IsWithin nodes (To n w) = n < nodes
 IsWithin nodes (End o) = Unit {0}
 IsWithin nodes Nowhere = ⊥
 
-answered_done : (left : List Answer) (calls : List Call) (w : World) → IsDone (answered_by left calls w)
+pub answered_done : (left : List Answer) (calls : List Call) (w : World) → IsDone (answered_by left calls w)
 answered_done [] calls w = tt
 answered_done (a ∷ rest) calls w = tt
 
 calling_done : (target : ℕ) (w : World) → IsDone (calling target w)
 calling_done target w = answered_done w.left _ w
 
-trap_done : (b : Bool) (w : World) (o : Outcome) → IsDone (if b then Next w else Halt o)
+pub trap_done : (b : Bool) (w : World) (o : Outcome) → IsDone (if b then Next w else Halt o)
 trap_done true w o = tt
 trap_done false w o = tt
+
+pub allowing_done : (bad : Option ℕ) (w : World) (d : Doing) → IsDone d → IsDone (allowing bad w d)
+allowing_done None w d h = h
+allowing_done (Some at) w d h = tt
 
 having_done : (e : CExpr) (w : World) (k : ℕ → Doing) → IsTrue (is_safe e) → ((x : ℕ) → IsDone (k x)) → IsDone (having (word_in e w) k)
 having_done e w k t h = let (x, g) = safe_value e w.names t in subst (λ o. IsDone (having o k)) (sym g) (h x)
 
 stmt_done : (s : Stmt) (w : World) → IsTrue (is_safe_stmt s) → IsDone (stmt_does s w)
 stmt_done (stmt.Set n e) w t = having_done e w _ t (λ x. tt)
-stmt_done (stmt.Load n width e) w t = having_done e w _ t (λ x. tt)
-stmt_done (stmt.Store width e f) w t = let (s, r) = both_true (is_safe e) (is_safe f) t in having_done e w _ s (λ x. having_done f w _ r (λ y. tt))
+stmt_done (stmt.Load n width e) w t = having_done e w _ t (λ x. allowing_done (first_bad w.pages.read x (bytes_of width)) w _ tt)
+stmt_done (stmt.Store width e f) w t = let (s, r) = both_true (is_safe e) (is_safe f) t in having_done e w _ s (λ x. having_done f w _ r (λ y. allowing_done (first_bad w.pages.write x (bytes_of width)) w _ tt))
 stmt_done (stmt.Ext e) w t = having_done e w _ t (λ x. calling_done x w)
 stmt_done (stmt.Trap vector e) w t = having_done e w _ t (λ x. trap_done (nat_eq x 0) w _)
 
-then_done : (d : Doing) (k : World → Doing) → IsDone d → ((u : World) → IsDone (k u)) → IsDone (then_do d k)
+pub then_done : (d : Doing) (k : World → Doing) → IsDone d → ((u : World) → IsDone (k u)) → IsDone (then_do d k)
 then_done (Next u) k h g = g u
 then_done (Halt o) k h g = tt
 then_done Jam k h g = h

@@ -1,5 +1,5 @@
 -- What a write to an operand leads to, and that names which are set apart from registers still show a step.
-use Rattle.std.proofs.Common.{◌≡◌, ℕ, zero, suc, ◌+◌, ◌-◌, ◌*◌, ◌/◌, ◌%◌, ◌^◌, ◌<◌, ◌≤◌, nat_lt, nat_eq, ◌&&◌, Bool, true, false, if◌then◌else◌, [], ◌∷◌, Some, bit_and, bit_or, lit≤, refl, ap, sym, ◌∙◌, subst, arith}
+use Rattle.std.proofs.Common.{◌≡◌, ℕ, zero, suc, ◌+◌, ◌-◌, ◌*◌, ◌/◌, ◌%◌, ◌^◌, ◌<◌, ◌≤◌, nat_lt, nat_eq, ◌&&◌, Bool, true, false, if◌then◌else◌, List, [], ◌∷◌, ◌++◌, Option, Some, None, bit_and, bit_or, lit≤, refl, ap, sym, ◌∙◌, subst, arith}
 use Rattle.std.proofs.lemmas.Bool.Decides.{nat_tests}
 use Rattle.std.proofs.lemmas.Nat.{and_mask, or_shifted, mod_below, pow_pos}
 use Rattle.std.proofs.lemmas.Nat.Bits.{and_high_mask}
@@ -25,13 +25,14 @@ use Rattle.x86_inst.specs.declared.Operand.{Operand}
 use Rattle.x86_inst.specs.declared.Operand.TheVariants as o
 use Rattle.x86_model.specs.declared.effect.Step.{Step}
 use Rattle.x86_model.specs.declared.effect.Effect.{Effect}
+use Rattle.x86_model.specs.declared.effect.Stored.{Stored}
 use Rattle.x86_model.specs.Arithmetic.{minus_of}
 use Rattle.x86_model.specs.Operands.{bits_of, width_of, part_of, with_low, with_second, with_part, address_of}
 use Rattle.x86_model.specs.Effects.{put, push}
-use Rattle.x86_model.specs.Leads.{stored}
+use Rattle.x86_model.specs.Leads.{first_of, stored, refused_word}
 use Rattle.lift_parts.specs.Parts.{reg, set_part, with_low_word, with_second_word, address_word, writes, pushes}
-use Rattle.lift_parts.specs.Shown.{AreNames, Shows, Runs}
-use Rattle.lift_parts.proofs.Chains.{none_run, set_runs, store_runs}
+use Rattle.lift_parts.specs.Shown.{AreNames, Shows, Runs, RunsTo}
+use Rattle.lift_parts.proofs.Chains.{none_run, runs_allowed, runs_by, runs_to_append, set_runs, set_runs_to, store_runs}
 use Rattle.lift_parts.proofs.Values.{not_equal, reg_is, reg_fits, address_is, low_again as low_part_again}
 
 -- ---- numbers
@@ -205,6 +206,7 @@ pub record Sets (r : Regs) (w u : World) : Type 0 where
   pub fs : u.names name.Fs ≡ w.names name.Fs
   pub gs : u.names name.Gs ≡ w.names name.Gs
   pub mem : u.mem ≡ w.mem
+  pub pages : u.pages ≡ w.pages
   pub left : u.left ≡ w.left
   pub calls : u.calls ≡ w.calls
 
@@ -225,6 +227,7 @@ whole_runs w h n e x k l = (
     fs = refl;
     gs = refl;
     mem = refl;
+    pages = refl;
     left = refl;
     calls = refl;
   },
@@ -292,6 +295,7 @@ part_runs size.W n x word value w h k l q = set_to w n _ _ _ (whole_runs w h n x
 pub record Written (size : Size) (o : Operand) (value : ℕ) (a : Step) (e : Effect) (w u : World) : Type 0 where
   pub regs : regs_in u.names ≡ (put size o value a e).regs
   pub mem : u.mem ≡ stored w.mem (put size o value a e).store
+  pub pages : u.pages ≡ w.pages
   pub names : AreNames u.names
   pub flags : (n : ℕ) → u.names (name.Flag n) ≡ w.names (name.Flag n)
   pub temps : (n : ℕ) → u.names (name.T n) ≡ w.names (name.T n)
@@ -300,15 +304,21 @@ pub record Written (size : Size) (o : Operand) (value : ℕ) (a : Step) (e : Eff
   pub left : u.left ≡ w.left
   pub calls : u.calls ≡ w.calls
 
+-- an effect that stores nothing leaves memory as it is
+stores_none : (m : Memory) (o : Option Stored) → o ≡ None → m ≡ stored m o
+stores_none m o e = sym (ap (stored m) e)
+
 -- a write to a register
-write_reg : (size : Size) (n value : ℕ) (a : Step) (e : Effect) (w : World) (s : Stmt) → regs_in w.names ≡ e.regs → stored w.mem e.store ≡ w.mem
-    → LeadsTo s w (with_part size (regs_in w.names) n value) → (u : World) × Runs (s ∷ []) w u × Written size (o.Reg n) value a e w u
+write_reg : (size : Size) (n value : ℕ) (a : Step) (e : Effect) (w : World) (s : Stmt) → regs_in w.names ≡ e.regs → e.store ≡ None
+    → LeadsTo s w (with_part size (regs_in w.names) n value)
+    → (u : World) × RunsTo (refused_word w.pages.write e.store) (s ∷ []) w u × Written size (o.Reg n) value a e w u
 write_reg size n value a e w s r m p = let (u, runs, sets) = p in (
   u,
-  runs,
+  runs_by None (refused_word w.pages.write e.store) (sym (ap (refused_word w.pages.write) m)) (runs_allowed runs),
   record {
     regs = sets.regs ∙ ap (λ r. with_part size r n value) r;
-    mem = sets.mem ∙ sym m;
+    mem = sets.mem ∙ stores_none w.mem e.store m;
+    pages = sets.pages;
     names = sets.names;
     flags = sets.flags;
     temps = sets.temps;
@@ -319,11 +329,12 @@ write_reg size n value a e w s r m p = let (u, runs, sets) = p in (
   },
 )
 
--- a write leads there, where the world's registers are those of the effect so far, which stores nothing yet
+-- A write leads there, where the world's registers are those of the effect so far, which stores nothing yet; unless the
+-- write is refused.
 pub writes_run : (size : Size) (o : Operand) (x : CExpr) (word value : ℕ) (a : Step) (e : Effect) (w : World)
-    → AreNames w.names → Shows a w.names → regs_in w.names ≡ e.regs → stored w.mem e.store ≡ w.mem
+    → AreNames w.names → Shows a w.names → regs_in w.names ≡ e.regs → e.store ≡ None
     → word_of x w.names ≡ Some word → word < 2 ^ 32 → low_part (bits_of size) word ≡ low_part (bits_of size) value
-    → (u : World) × Runs (writes size o x) w u × Written size o value a e w u
+    → (u : World) × RunsTo (refused_word w.pages.write (put size o value a e).store) (writes size o x) w u × Written size o value a e w u
 writes_run size (o.Reg n) x word value a e w h s r m k l q = write_reg size n value a e w _ r m (part_runs size n x word value w h k l q)
 writes_run size (o.Mem p) x word value a e w h s r m k l q = (
   record w { mem = store w.mem (address_of p a.regs a.fs a.gs) (bytes_of (width_of size)) word },
@@ -331,6 +342,7 @@ writes_run size (o.Mem p) x word value a e w h s r m k l q = (
   record {
     regs = r;
     mem = store_low w.mem (address_of p a.regs a.fs a.gs) size word (low_part (bits_of size) value) (q ∙ sym (low_part_again size value));
+    pages = refl;
     names = h;
     flags = λ n. refl;
     temps = λ n. refl;
@@ -342,10 +354,11 @@ writes_run size (o.Mem p) x word value a e w h s r m k l q = (
 )
 writes_run size (o.Imm i) x word value a e w h s r m k l q = (
   w,
-  none_run w,
+  runs_by None (refused_word w.pages.write e.store) (sym (ap (refused_word w.pages.write) m)) (runs_allowed (none_run w)),
   record {
     regs = r;
-    mem = sym m;
+    mem = stores_none w.mem e.store m;
+    pages = refl;
     names = h;
     flags = λ n. refl;
     temps = λ n. refl;
@@ -356,12 +369,20 @@ writes_run size (o.Imm i) x word value a e w h s r m k l q = (
   },
 )
 
+-- a write after statements that keep memory, pages and calls
+pub write_after : {w u t : World} (bad : Option ℕ) (o : Option Stored) (before stmts : List Stmt) → u.mem ≡ w.mem → u.pages ≡ w.pages → u.calls ≡ w.calls → RunsTo bad before w u
+    → RunsTo (refused_word u.pages.write o) stmts u t → RunsTo (first_of bad (refused_word w.pages.write o)) (before ++ stmts) w t
+write_after {w} {u} {t} bad o before stmts m p c r s =
+    runs_to_append bad (refused_word w.pages.write o) before stmts m c r
+    (runs_by (refused_word u.pages.write o) (refused_word w.pages.write o) (ap (λ p. refused_word p.write o) p) s)
+
 -- ---- the stack
 
 -- What is known after a value was pushed besides the effect e.
 pub record Pushed (value : ℕ) (a : Step) (e : Effect) (w u : World) : Type 0 where
   pub regs : regs_in u.names ≡ (push value a e).regs
   pub mem : u.mem ≡ stored w.mem (push value a e).store
+  pub pages : u.pages ≡ w.pages
   pub names : AreNames u.names
   pub flags : (n : ℕ) → u.names (name.Flag n) ≡ w.names (name.Flag n)
   pub temps : (n : ℕ) → u.names (name.T n) ≡ w.names (name.T n)
@@ -377,20 +398,21 @@ esp_less a v h s = simp word_layer (ap (λ x. Some (low_part 32 (x + 2 ^ 32 - 4)
     less : (x : ℕ) → x < 2 ^ 32 → low_part 32 (x + 2 ^ 32 - 4) ≡ minus_of 32 x 4
     less x h = omega arith
 
--- A push leads there. The word is evaluated after ESP fell.
+-- A push leads there, unless it is refused. The word is evaluated after ESP fell.
 pub pushes_run : (x : CExpr) (word value : ℕ) (a : Step) (e : Effect) (w : World)
     → AreNames w.names → Shows a w.names → regs_in w.names ≡ e.regs
     → word_of x (with_name w.names (name.Reg 4) (minus_of 32 a.regs.esp 4)) ≡ Some word → low_part 32 word ≡ low_part 32 value
-    → (u : World) × Runs (pushes x) w u × Pushed value a e w u
+    → (u : World) × RunsTo (refused_word w.pages.write (push value a e).store) (pushes x) w u × Pushed value a e w u
 pushes_run x word value a e w h s r k q =
     let sp : ℕ = minus_of 32 a.regs.esp 4 in
     let below : sp < 2 ^ 32 = mod_below (low_part 32 a.regs.esp + 2 ^ 32 - low_part 32 4) (2 ^ 32) (pow_pos 32) in
     let v : Names = with_name w.names (name.Reg 4) sp in (
       record w { names = v; mem = store w.mem sp (bytes_of (width_of size.W)) word },
-      set_runs (name.Reg 4) _ sp (esp_less a w.names h s) (store_runs (width_of size.W) (reg 4) x sp word (simp word_layer refl) k (none_run _)),
+      set_runs_to _ (name.Reg 4) _ sp (esp_less a w.names h s) (store_runs (width_of size.W) (reg 4) x sp word (simp word_layer refl) k (none_run _)),
       record {
         regs = reg_set w.names 4 sp ∙ ap (λ r. with_reg r 4 sp) r;
         mem = store_low w.mem sp size.W word (low_part 32 value) (q ∙ sym (low_part_again size.W value));
+        pages = refl;
         names = names_set w.names (name.Reg 4) sp h below;
         flags = λ n. refl;
         temps = λ n. refl;
