@@ -106,7 +106,7 @@ shown c (Goes w) h = h
 -- an outcome stays
 stays : (o p : Outcome) → p ≡ o → Continues o p
 stays (outcome.Returned r m c) p e = e
-stays (outcome.Faulted v m c) p e = e
+stays (outcome.Faulted v a m c) p e = e
 stays (outcome.Asking c) p e = e
 stays (outcome.Going c) p e = subst (OutcomeShows c) (sym e) ([], sym (append-nil c))
 stays outcome.Strayed p e = e
