@@ -5,3 +5,5 @@ pub mod Fetching
 mod Stores
 mod Placed
 mod Running
+mod Acting
+mod Unrefused

@@ -22,7 +22,7 @@ module _ (step : ℕ → State → Onward State Ending) where
 pub is_over : (led : Led) (m : State) (f : ℕ → State → Onward State Ending) → ((a : ℕ) → led ≡ To a → ⊥) → go_on (onward led m) f ≡ onward led m
 is_over (To a) m f h = absurd (h a refl)
 is_over Returned m f h = refl
-is_over (Faulted v) m f h = refl
+is_over (Faulted v bad) m f h = refl
 is_over Asking m f h = refl
 is_over Strayed m f h = refl
 is_over Undecoded m f h = refl

@@ -1,5 +1,5 @@
 -- When a step strays, in tests and in words.
-use Rattle.std.proofs.Common.{◌≡◌, ℕ, zero, suc, ◌+◌, ◌-◌, ◌%◌, ◌^◌, ◌<◌, ◌≤◌, ◌⊎◌, inl, inr, ◌↔◌, Bool, true, false, not, ◌&&◌, ◌||◌, ◌==◌, nat_le, nat_lt, List, [], ◌∷◌, length, Option, Some, refl, sym, subst, arith, cond, add-zero}
+use Rattle.std.proofs.Common.{◌≡◌, ℕ, zero, suc, ◌+◌, ◌-◌, ◌%◌, ◌^◌, ◌<◌, ◌≤◌, ◌⊎◌, inl, inr, ◌↔◌, Bool, true, false, not, ◌&&◌, ◌||◌, ◌==◌, nat_le, nat_lt, List, [], ◌∷◌, length, Option, Some, refl, sym, ap, subst, ◌∙◌, arith, cond, add-zero}
 use Rattle.std.specs.Prelude.{IsSome}
 use Rattle.std.proofs.lemmas.Bool.{cases_eq, cases_Bool, eqb-true, eqb-false, ne_eqb, le-leb, lt-ltb, leb-true, ltb-true, and_parts, and_from, and_cases, or_cases, or_parts, or_left, or_right, not-true, not_from_false, both_ways}
 use Rattle.elf_image.specs.declared.image.Segment.{Segment}
@@ -10,11 +10,14 @@ use Rattle.dream_words.specs.Memory.{Mem, byte_at}
 use Rattle.x86_inst.specs.declared.Inst.{Inst}
 use Rattle.x86_model.specs.declared.effect.Go.{Go}
 use Rattle.x86_model.specs.declared.effect.Go.TheVariants.{Next, Again, To, CallTo, LeaveTo, Return, Fault, Stray}
+use Rattle.x86_model.specs.declared.effect.Effect.{Effect}
 use Rattle.x86_model.specs.Machine.{State}
-use Rattle.x86_model.specs.Leads.{stored}
+use Rattle.x86_model.specs.Leads.{stored, step_of, effect_in}
+use Rattle.x86_model.specs.Undefined.{reads_undefined, is_stray}
+use Rattle.x86_model.specs.Laws.{StraysSo}
 use Rattle.machine.specs.Code.{all_below, keeps_frozen, keeps_slot, is_broken}
-use Rattle.machine.specs.Run.{Scene, is_indirect, answer_breaks, is_middle, strays_in}
-use Rattle.machine.specs.Laws.{StrayingIsExact, Breaks, AnswerBreaks, IsMiddle, GoStrays}
+use Rattle.machine.specs.Run.{Scene, is_indirect, answer_breaks, is_middle, reads_allowed, is_allowed, takes_broken, goes_middle, returns_elsewhere, strays}
+use Rattle.machine.specs.Laws.{StrayingIsExact, Straying, Breaks, AnswerBreaks, IsMiddle, CallsTo}
 use Rattle.machine.specs.Laws as laws
 
 -- ---- a test below a number
@@ -170,44 +173,120 @@ is_middle_if sc i a h =
     and_from (is_indirect i) (is_inside sc.range a && not (a == sc.range.entry)) h.indirect
     (and_from (is_inside sc.range a) (not (a == sc.range.entry)) h.inside (not_from_false _ (ne_eqb a sc.range.entry h.other)))
 
-either : (sc : Scene) (i : Inst) (m : State) (a : ℕ) → (answer_breaks sc m.left m.mem || is_middle sc i a) ≡ true → AnswerBreaks sc m.left m.mem ⊎ IsMiddle sc i a
-either sc i m a h = elim (or_cases (answer_breaks sc m.left m.mem) (is_middle sc i a) h) [
-  | inl e ↦ inl (breaks_answer sc m.left m.mem e)
-  | inr e ↦ inr (middle sc i a e)
-]
+-- ---- reasons of a step, by where its effect goes
 
-if_either : (sc : Scene) (i : Inst) (m : State) (a : ℕ) → AnswerBreaks sc m.left m.mem ⊎ IsMiddle sc i a → (answer_breaks sc m.left m.mem || is_middle sc i a) ≡ true
-if_either sc i m a (inl h) = or_left _ (is_middle sc i a) (answer_broken sc m.left m.mem h)
-if_either sc i m a (inr h) = or_right (answer_breaks sc m.left m.mem) _ (is_middle_if sc i a h)
+taken : (sc : Scene) (m : State) (g : Go) → takes_broken sc m g ≡ true → (a : ℕ) × CallsTo a g × AnswerBreaks sc m.left m.mem
+taken sc m (CallTo a) h = (a, laws.call, breaks_answer sc m.left m.mem h)
+taken sc m (LeaveTo a) h = (a, laws.leave, breaks_answer sc m.left m.mem h)
+taken sc m Next h = absurd (both_ways false refl h)
+taken sc m Again h = absurd (both_ways false refl h)
+taken sc m (To a) h = absurd (both_ways false refl h)
+taken sc m Return h = absurd (both_ways false refl h)
+taken sc m (Fault v) h = absurd (both_ways false refl h)
+taken sc m Stray h = absurd (both_ways false refl h)
 
-go_strays : (sc : Scene) (i : Inst) (m : State) (go : Go) → strays_in sc i m go ≡ true → GoStrays sc i m go
-go_strays sc i m Next h = absurd (both_ways false refl h)
-go_strays sc i m Again h = absurd (both_ways false refl h)
-go_strays sc i m (To a) h = absurd (both_ways false refl h)
-go_strays sc i m (CallTo a) h = laws.call a (either sc i m a h)
-go_strays sc i m (LeaveTo a) h = laws.leave a (either sc i m a h)
-go_strays sc i m Return h = laws.elsewhere (eqb-false m.regs.esp sc.slot (not-true _ h))
-go_strays sc i m (Fault v) h = absurd (both_ways false refl h)
-go_strays sc i m Stray h = laws.undefined
+is_taken : (sc : Scene) (m : State) (a : ℕ) (g : Go) → CallsTo a g → AnswerBreaks sc m.left m.mem → takes_broken sc m g ≡ true
+is_taken sc m a _ laws.call h = answer_broken sc m.left m.mem h
+is_taken sc m a _ laws.leave h = answer_broken sc m.left m.mem h
 
-if_strays : (sc : Scene) (i : Inst) (m : State) (go : Go) → GoStrays sc i m go → strays_in sc i m go ≡ true
-if_strays sc i m _ (laws.call a h) = if_either sc i m a h
-if_strays sc i m _ (laws.leave a h) = if_either sc i m a h
-if_strays sc i m _ (laws.elsewhere ne) = not_from_false _ (ne_eqb m.regs.esp sc.slot ne)
-if_strays sc i m _ laws.undefined = refl
+gone : (sc : Scene) (i : Inst) (g : Go) → goes_middle sc i g ≡ true → (a : ℕ) × CallsTo a g × IsMiddle sc i a
+gone sc i (CallTo a) h = (a, laws.call, middle sc i a h)
+gone sc i (LeaveTo a) h = (a, laws.leave, middle sc i a h)
+gone sc i Next h = absurd (both_ways false refl h)
+gone sc i Again h = absurd (both_ways false refl h)
+gone sc i (To a) h = absurd (both_ways false refl h)
+gone sc i Return h = absurd (both_ways false refl h)
+gone sc i (Fault v) h = absurd (both_ways false refl h)
+gone sc i Stray h = absurd (both_ways false refl h)
 
-pub straying_is_exact : StrayingIsExact
-straying_is_exact sc i m e =
-    let mem = stored m.mem e.store in (
-      (λ h. elim (or_cases (is_broken sc.image sc.slot m.mem mem) (strays_in sc i m e.go) h) [
-        | inl b ↦ inl (breaks sc.image sc.slot m.mem mem b)
-        | inr s ↦ inr (go_strays sc i m e.go s)
-      ]),
-      (λ h. elim h [
-        | inl b ↦ or_left _ (strays_in sc i m e.go) (broken sc.image sc.slot m.mem mem b)
-        | inr s ↦ or_right (is_broken sc.image sc.slot m.mem mem) _ (if_strays sc i m e.go s)
-      ]),
-    )
+is_gone : (sc : Scene) (i : Inst) (a : ℕ) (g : Go) → CallsTo a g → IsMiddle sc i a → goes_middle sc i g ≡ true
+is_gone sc i a _ laws.call h = is_middle_if sc i a h
+is_gone sc i a _ laws.leave h = is_middle_if sc i a h
+
+returned : (sc : Scene) (m : State) (g : Go) → returns_elsewhere sc m g ≡ true → (g ≡ Return) × (m.regs.esp ≡ sc.slot → ⊥)
+returned sc m Return h = (refl, eqb-false m.regs.esp sc.slot (not-true _ h))
+returned sc m (CallTo a) h = absurd (both_ways false refl h)
+returned sc m (LeaveTo a) h = absurd (both_ways false refl h)
+returned sc m Next h = absurd (both_ways false refl h)
+returned sc m Again h = absurd (both_ways false refl h)
+returned sc m (To a) h = absurd (both_ways false refl h)
+returned sc m (Fault v) h = absurd (both_ways false refl h)
+returned sc m Stray h = absurd (both_ways false refl h)
+
+is_returned : (sc : Scene) (m : State) (g : Go) → g ≡ Return → (m.regs.esp ≡ sc.slot → ⊥) → returns_elsewhere sc m g ≡ true
+is_returned sc m g e ne = ap (returns_elsewhere sc m) e ∙ not_from_false _ (ne_eqb m.regs.esp sc.slot ne)
+
+strays_at : (g : Go) → is_stray g ≡ true → g ≡ Stray
+strays_at Stray h = refl
+strays_at (CallTo a) h = absurd (both_ways false refl h)
+strays_at (LeaveTo a) h = absurd (both_ways false refl h)
+strays_at Next h = absurd (both_ways false refl h)
+strays_at Again h = absurd (both_ways false refl h)
+strays_at (To a) h = absurd (both_ways false refl h)
+strays_at Return h = absurd (both_ways false refl h)
+strays_at (Fault v) h = absurd (both_ways false refl h)
+
+-- ---- a step
+
+module _ (law : StraysSo) (sc : Scene) (i : Inst) (next : ℕ) (m : State) where
+  -- the effect of the step
+  abbrev effect : Effect
+  effect = effect_in i next m
+
+  -- the four parts of the test
+  abbrev changes : Bool
+  changes = is_broken sc.image sc.slot m.mem (stored m.mem effect.store) || takes_broken sc m effect.go
+
+  abbrev astray : Bool
+  astray = is_stray effect.go || goes_middle sc i effect.go
+
+  by_change : (is_allowed i m effect && changes) ≡ true → Straying sc i next m
+  by_change h =
+      let p = and_parts (is_allowed i m effect) changes h in
+      elim (or_cases (is_broken sc.image sc.slot m.mem (stored m.mem effect.store)) (takes_broken sc m effect.go) p.1) [
+        | inl b ↦ laws.store p.0 (breaks sc.image sc.slot m.mem (stored m.mem effect.store) b)
+        | inr t ↦ let q = taken sc m effect.go t in laws.answer p.0 q.0 q.1 q.2
+      ]
+
+  by_way : (reads_allowed i m && astray) ≡ true → Straying sc i next m
+  by_way h =
+      let p = and_parts (reads_allowed i m) astray h in
+      elim (or_cases (is_stray effect.go) (goes_middle sc i effect.go) p.1) [
+        | inl s ↦ elim ((law i (step_of i next m)).0 (strays_at effect.go s)) [ inl u ↦ laws.undefined u | inr z ↦ laws.search p.0 z ]
+        | inr g ↦ let q = gone sc i effect.go g in laws.middle p.0 q.0 q.1 q.2
+      ]
+
+  reason : strays sc i m effect ≡ true → Straying sc i next m
+  reason h = elim (or_cases (is_allowed i m effect && changes) (returns_elsewhere sc m effect.go || (reads_undefined i m.flags || (reads_allowed i m && astray))) h) [
+    | inl c ↦ by_change c
+    | inr h' ↦ elim (or_cases (returns_elsewhere sc m effect.go) (reads_undefined i m.flags || (reads_allowed i m && astray)) h') [
+      | inl r ↦ let q = returned sc m effect.go r in laws.elsewhere q.0 q.1
+      | inr h'' ↦ elim (or_cases (reads_undefined i m.flags) (reads_allowed i m && astray) h'') [
+        | inl u ↦ laws.undefined u
+        | inr w ↦ by_way w
+      ]
+    ]
+  ]
+
+  if_changes : is_allowed i m effect ≡ true → changes ≡ true → strays sc i m effect ≡ true
+  if_changes a c = or_left (is_allowed i m effect && changes) _ (and_from (is_allowed i m effect) changes a c)
+
+  if_way : reads_allowed i m ≡ true → astray ≡ true → strays sc i m effect ≡ true
+  if_way a w =
+      or_right (is_allowed i m effect && changes) _ (or_right (returns_elsewhere sc m effect.go) _ (or_right (reads_undefined i m.flags) _ (and_from (reads_allowed i m) astray a w)))
+
+  by_reason : Straying sc i next m → strays sc i m effect ≡ true
+  by_reason (laws.store a b) = if_changes a (or_left _ (takes_broken sc m effect.go) (broken sc.image sc.slot m.mem (stored m.mem effect.store) b))
+  by_reason (laws.answer a t calls b) = if_changes a (or_right (is_broken sc.image sc.slot m.mem (stored m.mem effect.store)) _ (is_taken sc m t effect.go calls b))
+  by_reason (laws.elsewhere e ne) =
+      or_right (is_allowed i m effect && changes) _ (or_left (returns_elsewhere sc m effect.go) _ (is_returned sc m effect.go e ne))
+  by_reason (laws.undefined u) =
+      or_right (is_allowed i m effect && changes) _ (or_right (returns_elsewhere sc m effect.go) _ (or_left (reads_undefined i m.flags) _ u))
+  by_reason (laws.search a z) = if_way a (or_left _ (goes_middle sc i effect.go) (ap is_stray ((law i (step_of i next m)).1 (inr z))))
+  by_reason (laws.middle a t calls h) = if_way a (or_right (is_stray effect.go) _ (is_gone sc i t effect.go calls h))
+
+pub straying_is_exact : StraysSo → StrayingIsExact
+straying_is_exact law sc i next m = (reason law sc i next m, by_reason law sc i next m)
 
 -- memory that isn't written is kept
 pub unbroken : (m : List Segment) (s : ℕ) (mem : Mem) → is_broken m s mem mem ≡ false

@@ -1,6 +1,7 @@
 -- What the code keeps of a run, read as a state, and where a step of it led.
 use Rattle.std.specs.Prelude.{◌≡◌, ℕ, List, [], ◌∷◌, ◌++◌, length, drop, Option}
 use Rattle.dream_words.specs.declared.outcome.Answer.{Answer}
+use Rattle.dream_words.specs.declared.pages.Pages.{Pages}
 use Rattle.x86_inst.specs.declared.Inst.{Inst}
 use Rattle.x86_model.specs.declared.effect.Go.TheVariants as go
 use Rattle.x86_model.specs.Leads.{call_of, answered_or, leads}
@@ -13,15 +14,29 @@ use Rattle.machine.specs.Steps.{judged}
 use Rattle.machine.specs.Code.{Decodes}
 use Rattle.machine.specs.Run.{Scene, answer_breaks, step_at}
 
--- The state that a machine stands in. The answers that are left are those after the calls so far.
-abbrev pub state_of : List Answer → Machine → State
-state_of answers m = record { regs = m.regs; flags = m.flags; fs = m.fs; gs = m.gs; mem = m.mem; left = drop (length m.calls) answers; calls = m.calls }
+-- The state that a machine stands in, with the pages and the answers of its run. The answers that are left are those after
+-- the calls so far.
+abbrev pub state_with : Pages → List Answer → Machine → State
+state_with pages answers m = record {
+  regs = m.regs;
+  flags = m.flags;
+  fs = m.fs;
+  gs = m.gs;
+  mem = m.mem;
+  pages = pages;
+  left = drop (length m.calls) answers;
+  calls = m.calls;
+}
+
+-- the same in a setting
+abbrev pub state_of : Setting → Machine → State
+state_of s m = state_with s.pages.now s.answers.now m
 
 -- where a step led that left a state
 abbrev pub onward : Led → State → Onward State Ending
 onward (led.To a) m = At a m
 onward led.Returned m = Finished (Returned m.regs m.mem m.calls)
-onward (led.Faulted v) m = Finished (Faulted v m.mem m.calls)
+onward (led.Faulted v bad) m = Finished (Faulted v bad m.mem m.calls)
 onward led.Asking m = Finished (Asking m.calls)
 onward led.Strayed m = Strays
 onward led.Undecoded m = Blank
@@ -34,7 +49,7 @@ scene_in s decoded = record { image = s.image.now; range = s.range; decoded = de
 abbrev pub IsStep : Setting → ℕ → Machine → Led → Machine → Type 0
 IsStep s at old to new =
     (decoded : ℕ → Option (Inst × ℕ)) → Decodes s.image.now s.range decoded
-    → onward to (state_of s.answers.now new) ≡ step_at (scene_in s decoded) at (state_of s.answers.now old)
+    → onward to (state_of s new) ≡ step_at (scene_in s decoded) at (state_of s old)
 
 -- A call is recorded, and takes the next answer, or asks; then the run goes on as is said.
 abbrev pub calling : Led → ℕ → State → Onward State Ending

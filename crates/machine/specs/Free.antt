@@ -1,5 +1,5 @@
 -- The run of a machine without rights to pages: every access is allowed.
-use Rattle.std.specs.Prelude.{◌≡◌, ℕ, ◌+◌, ◌%◌, ◌^◌, Bool, not, ◌||◌, List, Option, Some, None, if◌then◌else◌}
+use Rattle.std.specs.Prelude.{◌≡◌, ℕ, ◌+◌, ◌%◌, ◌^◌, Bool, ◌||◌, List, Option, Some, None, if◌then◌else◌}
 use Rattle.elf_image.specs.declared.image.Segment.{Segment}
 use Rattle.elf_image.specs.declared.range.Range.{Range}
 use Rattle.elf_image.specs.Range.{is_inside}

@@ -28,6 +28,7 @@ pub fn run(
         image,
         range: *range,
         slot: start.regs.esp,
+        pages: &start.pages,
         answers,
     };
     let mut machine = Machine::new(alloc, start)?;

@@ -1,4 +1,4 @@
-//! What stays the same in a run: the image, the range, the return slot and the answers.
+//! What stays the same in a run: the image, the range, the return slot, the pages that may be accessed and the answers.
 
 ghost use Rattle.std.specs.Prelude.{◌≡◌, ◌&&◌, ◌==◌, not, ℕ, IfOk, Option, take};
 ghost use Rattle.elf_image.specs.Range.{is_inside, bytes_to_end};
@@ -8,7 +8,7 @@ ghost use Rattle.std.specs.Prelude.{List};
 ghost use Rattle.machine.specs.Code.{Decodes};
 ghost use Rattle.machine.specs.Run.{is_indirect as is_indirect_in};
 
-use dream_words::Answer;
+use dream_words::{Answer, Pages};
 use elf_image::{Image, Range};
 use std::alloc::{AllocError, Global};
 use x86_decode::{Decoded, decode};
@@ -21,6 +21,8 @@ pub struct Setting<'a> {
     pub range: Range,
     /// The first of the four addresses at which the return address lies.
     pub slot: u32,
+    /// The pages that may be read and written.
+    pub pages: &'a Pages,
     /// The k-th call takes the k-th answer.
     pub answers: &'a [Answer],
 }

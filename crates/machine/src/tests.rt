@@ -1,8 +1,9 @@
 //! Worked runs, their outcomes worked out by hand from the meaning of the instructions.
 
 use crate::{run, start_memory};
-use dream_words::{Answer, Bit, Flags, Memory, Outcome, Regs, Start, Width};
+use dream_words::{Answer, Bit, Flags, Memory, Outcome, PageRun, Pages, Regs, Start, Width};
 use elf_image::{Image, ImageFault, Range};
+use sqlite_items::Items;
 use std::alloc::{AllocError, Global};
 use std::test::Fail;
 
@@ -55,11 +56,24 @@ fn flags() -> Flags {
     }
 }
 
-/// The run of a range of some bytes of the code, from 7 in eax, 3 in ecx and 0x1000 in edi.
+/// The run of a range of some bytes of the code, from 7 in eax, 3 in ecx and 0x1000 in edi, with every
+/// page.
 fn run_code(
     alloc: Global,
     code: &[u8],
     size: u32,
+    answers: &[Answer],
+    steps: u64,
+) -> Result<Outcome, Fail> {
+    run_with(alloc, code, size, Pages::all(alloc)?, answers, steps)
+}
+
+/// The same with some pages.
+fn run_with(
+    alloc: Global,
+    code: &[u8],
+    size: u32,
+    pages: Pages,
     answers: &[Answer],
     steps: u64,
 ) -> Result<Outcome, Fail> {
@@ -70,6 +84,7 @@ fn run_code(
         fs: 0,
         gs: 0,
         mem: start_memory(alloc, &image)?,
+        pages,
     };
     let range = Range::new(ENTRY, size);
     Ok(run(alloc, &image, &range, &start, answers, steps)?)
@@ -174,5 +189,48 @@ fn an_answer_keeps_what_must_stay(rt: HostRuntime) -> Result<(), Fail> {
     let answers = answer(alloc, Memory::new(alloc))?;
     let outcome = run_code(alloc, code, 6, &answers, 1)?;
     assert_eq!(rt; told(&outcome), ("strayed", 0, 0));
+    Ok(())
+}
+
+/// Page 0 may be read, and page 1 written.
+fn two_pages(alloc: Global) -> Result<Pages, AllocError> {
+    Ok(Pages {
+        read: Items::from_slice(alloc, &[PageRun { first: 0, count: 1 }])?,
+        write: Items::from_slice(alloc, &[PageRun { first: 1, count: 1 }])?,
+    })
+}
+
+#[test]
+fn the_first_byte_that_is_refused_is_told(rt: HostRuntime) -> Result<(), Fail> {
+    let alloc = rt.alloc();
+    let cases: [(&[u8], (u32, u32)); 6] = [
+        // mov eax, [0xffd], whose last byte is on page 1
+        (b"\xa1\xfd\x0f\0\0", (14, 0x1000)),
+        // mov [0x1ffe], eax, whose third byte is on page 2
+        (b"\xa3\xfe\x1f\0\0", (14, 0x2000)),
+        // mov [0xffe], eax, whose first byte is on page 0
+        (b"\xa3\xfe\x0f\0\0", (14, 0xffe)),
+        // inc dword [0xffe], which reads page 1 before it writes page 0
+        (b"\xff\x05\xfe\x0f\0\0", (14, 0x1000)),
+        // mov eax, [0xfffffffe], which wraps around
+        (b"\xa1\xfe\xff\xff\xff", (14, 0xffff_fffe)),
+        // div dword [0x800], by 0, which may be read
+        (b"\xf7\x35\0\x08\0\0", (0, 0)),
+    ];
+    for (code, want) in cases {
+        let size = u32::try_from(code.len())?;
+        let outcome = run_with(alloc, code, size, two_pages(alloc)?, &[], 1)?;
+        let Outcome::Faulted {
+            vector,
+            at,
+            mem,
+            ..
+        } = outcome
+        else {
+            return Err("it didn't fault".into());
+        };
+        assert_eq!(rt; (vector, at), want);
+        assert_eq!(rt; mem.load(0x1000, Width::W), 0);
+    }
     Ok(())
 }
