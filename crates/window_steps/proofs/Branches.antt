@@ -1,5 +1,5 @@
 -- The comparison of the index, and the branch by it.
-use Rattle.std.proofs.Common.{◌≡◌, ℕ, ◌+◌, ◌-◌, ◌%◌, ◌/◌, ◌^◌, ◌<◌, inl, inr, Bool, true, false, nat_eq, nat_lt, if◌then◌else◌, List, Option, Some, None, refl, sym, ap, ◌∙◌, subst, arith, add-zero}
+use Rattle.std.proofs.Common.{◌≡◌, ℕ, ◌+◌, ◌-◌, ◌%◌, ◌/◌, ◌^◌, ◌<◌, inl, inr, Bool, true, false, nat_eq, nat_lt, if◌then◌else◌, List, [], ◌∷◌, Option, Some, None, refl, sym, ap, ◌∙◌, subst, arith, add-zero}
 use Rattle.std.specs.Prelude.{◌||◌, not, ◌==◌, unwrap_or}
 use Rattle.std.proofs.Math.Nat.{mod-eq_of_lt}
 use Rattle.std.proofs.lemmas.Bool.{cases_eq, eq-eqb, eqb-true, ne_eqb}
@@ -24,7 +24,8 @@ use Rattle.x86_model.specs.declared.effect.Effect.{Effect}
 use Rattle.x86_model.specs.declared.effect.Go.TheVariants as go
 use Rattle.x86_model.specs.Arithmetic.{difference_flags, difference_of, flag_if}
 use Rattle.x86_model.specs.Effects.{both, condition_of, done, either, goes, known, opposite, reading}
-use Rattle.x86_model.specs.Leads.{effect_in, step_of}
+use Rattle.x86_model.specs.Leads.{allowed, effect_in, refused_read, step_of}
+use Rattle.x86_model.specs.Undefined.{condition_flags, some_undefined}
 use Rattle.x86_model.specs.Machine.{At, State}
 use Rattle.x86_model.specs.Operands.{address_of, bits_of, width_of}
 use Rattle.x86_model.specs.Rows.{target_at}
@@ -85,6 +86,17 @@ either_if true false = refl
 either_if false true = refl
 either_if false false = refl
 
+-- a flag that is 1 or 0 isn't undefined
+one_defined : (p : Bool) → some_undefined (flag_if p ∷ []) ≡ false
+one_defined true = refl
+one_defined false = refl
+
+two_defined : (p q : Bool) → some_undefined (flag_if p ∷ flag_if q ∷ []) ≡ false
+two_defined true true = refl
+two_defined true false = refl
+two_defined false true = refl
+two_defined false false = refl
+
 at_most : (x y : ℕ) → (nat_lt x y || nat_eq x y) ≡ nat_lt x (y + 1)
 at_most x y = grind (arith, nat_tests)
 
@@ -104,6 +116,8 @@ module _ (size : Size) (x y : ℕ) (h : x < 2 ^ bits_of size) (k : y < 2 ^ bits_
 
   -- which way a branch goes, and to which of its two addresses
   pub record Turns (c target next default path n : ℕ) : Type 0 where
+    -- no flag that the condition reads is undefined
+    pub calm : some_undefined (condition_flags c flags) ≡ false
     pub truth : condition_of c flags ≡ Some (if is_above c then not (nat_lt x n) else nat_lt x n)
     pub above : is_above c ≡ true → (target ≡ default) × (next ≡ path)
     pub below : is_above c ≡ false → (next ≡ default) × (target ≡ path)
@@ -121,6 +135,7 @@ module _ (size : Size) (x y : ℕ) (h : x < 2 ^ bits_of size) (k : y < 2 ^ bits_
       let t = same_split target next (y + 1) default path n e in
       let is : c ≡ 7 = eqb-true c 7 (sym p) in
       subst (λ c. Turns c target next default path n) (sym is) (record {
+        calm = two_defined (borrows (bits_of size) x y false) (low_part (bits_of size) (difference_of (bits_of size) x y false) == 0);
         truth = ap opposite most_is ∙ ap (λ m. Some (not (nat_lt x m))) t.2;
         above = λ a. (t.0, t.1);
         below = λ a. absurd (let z : ⊥ = cc in z);
@@ -129,6 +144,7 @@ module _ (size : Size) (x y : ℕ) (h : x < 2 ^ bits_of size) (k : y < 2 ^ bits_
       let t = same_split target next y default path n e in
       let is : c ≡ 3 = eqb-true c 3 (sym q) in
       subst (λ c. Turns c target next default path n) (sym is) (record {
+        calm = one_defined (borrows (bits_of size) x y false);
         truth = ap opposite carry_is ∙ ap (λ m. Some (not (nat_lt x m))) t.2;
         above = λ a. (t.0, t.1);
         below = λ a. absurd (let z : ⊥ = cc in z);
@@ -137,6 +153,7 @@ module _ (size : Size) (x y : ℕ) (h : x < 2 ^ bits_of size) (k : y < 2 ^ bits_
       let t = same_split next target (y + 1) default path n e in
       let is : c ≡ 6 = eqb-true c 6 (sym r) in
       subst (λ c. Turns c target next default path n) (sym is) (record {
+        calm = two_defined (borrows (bits_of size) x y false) (low_part (bits_of size) (difference_of (bits_of size) x y false) == 0);
         truth = most_is ∙ ap (λ m. Some (nat_lt x m)) t.2;
         above = λ a. absurd (let z : ⊥ = cc in z);
         below = λ a. (t.0, t.1);
@@ -145,6 +162,7 @@ module _ (size : Size) (x y : ℕ) (h : x < 2 ^ bits_of size) (k : y < 2 ^ bits_
       let t = same_split next target y default path n e in
       let is : c ≡ 2 = eqb-true c 2 (sym s) in
       subst (λ c. Turns c target next default path n) (sym is) (record {
+        calm = one_defined (borrows (bits_of size) x y false);
         truth = carry_is ∙ ap (λ m. Some (nat_lt x m)) t.2;
         above = λ a. absurd (let z : ⊥ = cc in z);
         below = λ a. (t.0, t.1);
@@ -169,11 +187,12 @@ module _ (size : Size) (x y : ℕ) (h : x < 2 ^ bits_of size) (k : y < 2 ^ bits_
 -- ---- the two steps
 
 module _ (m : List Segment) (r : Range) (decoded : ℕ → Option (Inst × ℕ)) (decodes : Decodes m r decoded) (start : Start) where
-  -- CMP sets the flags of a difference
+  -- CMP sets the flags of a difference, unless its read is refused
   pub compare_step : (a size_of : ℕ) (size : Size) (x : Operand) (k : ℕ) (s : State) → BeginsAt m r a (i.Alu Cmp size x (o.Imm k)) size_of → is_place x ≡ true
-      → step_at (scene m r decoded decodes start) a s ≡ At (next_of a size_of) (with_regs s s.regs (difference_flags (bits_of size) (value_in size x s) (low_part (bits_of size) k) false))
-  compare_step a size_of size (o.Reg n) k s b e = step_next m r decoded decodes start a (i.Alu Cmp size (o.Reg n) (o.Imm k)) size_of s b refl refl
-  compare_step a size_of size (o.Mem n) k s b e = step_next m r decoded decodes start a (i.Alu Cmp size (o.Mem n) (o.Imm k)) size_of s b refl refl
+      → step_at (scene m r decoded decodes start) a s
+      ≡ allowed (refused_read (i.Alu Cmp size x (o.Imm k)) s) s (At (next_of a size_of) (with_regs s s.regs (difference_flags (bits_of size) (value_in size x s) (low_part (bits_of size) k) false)))
+  compare_step a size_of size (o.Reg n) k s b e = step_next m r decoded decodes start a (i.Alu Cmp size (o.Reg n) (o.Imm k)) size_of s b refl refl refl
+  compare_step a size_of size (o.Mem n) k s b e = step_next m r decoded decodes start a (i.Alu Cmp size (o.Mem n) (o.Imm k)) size_of s b refl refl refl
   compare_step a size_of size (o.Imm n) k s b e = absurd (let z : ⊥ = cc in z)
 
   -- Jcc goes to its target or on, as its condition is known
@@ -183,13 +202,13 @@ module _ (m : List Segment) (r : Range) (decoded : ℕ → Option (Inst × ℕ))
       let a = step_of (i.Jcc c distance) next s in
       ap (λ o. reading o a (λ b. if b then goes (go.To (target_at distance a)) a else done a a.flags)) h
 
-  pub branch_step : (a n : ℕ) (c : Cond) (distance : ℕ) (s : State) (p : Bool) → BeginsAt m r a (i.Jcc c distance) n → condition_of c.0 s.flags ≡ Some p
+  pub branch_step : (a n : ℕ) (c : Cond) (distance : ℕ) (s : State) (p : Bool) → BeginsAt m r a (i.Jcc c distance) n → condition_of c.0 s.flags ≡ Some p → some_undefined (condition_flags c.0 s.flags) ≡ false
       → step_at (scene m r decoded decodes start) a s ≡ At (if p then (next_of a n + distance) % 2 ^ 32 else next_of a n) s
-  branch_step a n c distance s true b h =
+  branch_step a n c distance s true b h u =
       let e = branch_effect c distance (next_of a n) s true h in
-      step_to m r decoded decodes start a (i.Jcc c distance) n ((next_of a n + distance) % 2 ^ 32) s b (ap (λ f. f.store) e) (ap (λ f. f.go) e)
+      step_to m r decoded decodes start a (i.Jcc c distance) n ((next_of a n + distance) % 2 ^ 32) s b (ap (λ f. f.store) e) (ap (λ f. f.go) e) u
       ∙ ap (λ (f : Effect). At ((next_of a n + distance) % 2 ^ 32) (with_regs s f.regs f.flags)) e
-  branch_step a n c distance s false b h =
+  branch_step a n c distance s false b h u =
       let e = branch_effect c distance (next_of a n) s false h in
-      step_next m r decoded decodes start a (i.Jcc c distance) n s b (ap (λ f. f.store) e) (ap (λ f. f.go) e)
+      step_next m r decoded decodes start a (i.Jcc c distance) n s b (ap (λ f. f.store) e) (ap (λ f. f.go) e) u
       ∙ ap (λ (f : Effect). At (next_of a n) (with_regs s f.regs f.flags)) e

@@ -6,6 +6,7 @@ use Rattle.std.proofs.lemmas.Bool.{and_parts, not-true, eqb-true, ltb-true}
 use Rattle.elf_image.specs.declared.image.Segment.{Segment}
 use Rattle.elf_image.specs.declared.range.Range.{Range}
 use Rattle.elf_image.specs.Range.{bytes_to_end}
+use Rattle.dream_words.specs.declared.machine.Flags.{Flags}
 use Rattle.dream_words.specs.declared.outcome.Start.{Start}
 use Rattle.dream_words.specs.Ranges.{AreBytes}
 use Rattle.dream_words.specs.Registers.{reg_of}
@@ -21,11 +22,12 @@ use Rattle.x86_inst.specs.declared.Size.{Size}
 use Rattle.x86_formed.specs.Formed.{is_formed, is_formed_mem, is_formed_operand, is_memory as is_memory_operand, is_register}
 use Rattle.x86_formed.proofs.Spelled.{spelled_is_formed}
 use Rattle.x86_model.specs.declared.effect.Effect.{Effect}
-use Rattle.x86_model.specs.Leads.{effect_in, instruction_does}
+use Rattle.x86_model.specs.Undefined.{reads_undefined}
+use Rattle.x86_model.specs.Leads.{allowed, refused_read, effect_in, instruction_does}
 use Rattle.x86_model.specs.Machine.{At, State}
 use Rattle.x86_model.specs.Successors.{is_memory}
 use Rattle.machine.specs.Code.{BeginsAt, Decodes}
-use Rattle.machine.specs.Run.{step_at}
+use Rattle.machine.specs.Run.{Scene, step_at}
 use Rattle.jump_tables.specs.Forms.{Index, Known, after, form_after, is_on_path, is_part_of, same_register, with_form, written}
 use Rattle.jump_tables.specs.Window.{next_of}
 use Rattle.window_steps.specs.Knowledge.{Holds, Says}
@@ -150,15 +152,33 @@ module _ (x : Index) (k : Known) (n : ℕ) (s : State) (h : Holds x n k s) where
 
 -- ---- the step
 
+-- no instruction of a path reads a flag
+pub move_calm : (inst : Inst) (f : Flags) → Move inst → reads_undefined inst f ≡ false
+move_calm _ f (mov size d p) = refl
+move_calm _ f (movzx from to d p) = refl
+move_calm _ f (lea size d m) = refl
+move_calm _ f (shl size d c g) = refl
+move_calm _ f (add size d v) = refl
+
 -- the state after an instruction
 abbrev pub state_after : Inst → ℕ → State → State
 state_after inst next s = with_regs s (effect_in inst next s).regs (effect_in inst next s).flags
 
+-- What a step does at an instruction of a path: unless its read is refused it leads on, for the machine with and without the
+-- tests of strays, and what is known after it holds.
+pub record Steps (sc : Scene) (x : Index) (k : Known) (n at next : ℕ) (inst : Inst) (s : State) : Type 0 where
+  pub step : step_at sc at s ≡ allowed (refused_read inst s) s (At next (state_after inst next s))
+  pub does : instruction_does inst at next s ≡ allowed (refused_read inst s) s (At next (state_after inst next s))
+  pub holds : Holds x n (after x k inst) (state_after inst next s)
+
 module _ (m : List Segment) (r : Range) (decoded : ℕ → Option (Inst × ℕ)) (decodes : Decodes m r decoded) (start : Start) where
-  -- the machine's step, with and without the tests of strays, and what is known after it
   pub path_step : (x : Index) (k : Known) (n at size : ℕ) (inst : Inst) (s : State) → BeginsAt m r at inst size → is_on_path inst ≡ true → Holds x n k s → RegsFit s.regs → AreBytes s.mem
-      → (step_at (scene m r decoded decodes start) at s ≡ At (next_of at size) (state_after inst (next_of at size) s))
-      × (instruction_does inst at (next_of at size) s ≡ At (next_of at size) (state_after inst (next_of at size) s)) × Holds x n (after x k inst) (state_after inst (next_of at size) s)
+      → Steps (scene m r decoded decodes start) x k n at (next_of at size) inst s
   path_step x k n at size inst s b on h fit bytes =
-      let t = move_sets x k n s h fit bytes inst (next_of at size) (path_move inst on) (begins_formed m r at inst size b) in
-      (step_next m r decoded decodes start at inst size s b t.stores t.goes, does_next at (next_of at size) s (effect_in inst (next_of at size) s) t.stores t.goes, after_holds x k n s h inst (effect_in inst (next_of at size) s) t)
+      let move = path_move inst on in
+      let t = move_sets x k n s h fit bytes inst (next_of at size) move (begins_formed m r at inst size b) in
+      record {
+        step = step_next m r decoded decodes start at inst size s b t.stores t.goes (move_calm inst s.flags move);
+        does = does_next inst at (next_of at size) s t.stores t.goes;
+        holds = after_holds x k n s h inst (effect_in inst (next_of at size) s) t;
+      }

@@ -1,6 +1,7 @@
 -- Steps of the machine that go on without calls.
-use Rattle.std.proofs.Common.{◌≡◌, ℕ, zero, suc, ◌+◌, ◌^◌, ◌<◌, Bool, true, false, cond, inl, inr, List, [], length, take, Option, None, refl, ap, ◌∙◌, subst, arith, length-append}
-use Rattle.std.specs.Prelude.{◌||◌, if◌then◌else◌, min, ◌-◌}
+use Rattle.std.proofs.Common.{◌≡◌, ℕ, zero, suc, ◌+◌, ◌^◌, ◌<◌, ◌≤◌, Bool, true, false, cond, inl, inr, List, [], length, take, Option, None, refl, sym, ap, ◌∙◌, subst, arith, length-append}
+use Rattle.std.specs.Prelude.{◌&&◌, ◌||◌, if◌then◌else◌, min, ◌-◌}
+use Rattle.std.proofs.Math.Bool.{and-false}
 use Rattle.std.proofs.lemmas.Bool.{cases_lt, cases_Bool}
 use Rattle.elf_image.specs.declared.image.Segment.{Segment}
 use Rattle.elf_image.specs.declared.range.Range.{Range}
@@ -10,10 +11,11 @@ use Rattle.x86_inst.specs.declared.Inst.{Inst}
 use Rattle.x86_inst.specs.Spelling.{Spells, opcode, opcode_bytes}
 use Rattle.x86_model.specs.declared.effect.Effect.{Effect}
 use Rattle.x86_model.specs.declared.effect.Go.TheVariants as go
-use Rattle.x86_model.specs.Leads.{effect_in, leads, step_does, stored}
-use Rattle.x86_model.specs.Machine.{Onward, At, State, Ending}
+use Rattle.x86_model.specs.Leads.{allowed, effect_in, instruction_does, leads, refused_read, refused_word, stored}
+use Rattle.x86_model.specs.Undefined.{is_stray, reads_undefined}
+use Rattle.x86_model.specs.Machine.{Onward, At, Finished, Strays, Blank, State, Ending}
 use Rattle.machine.specs.Code.{BeginsAt, Decodes, is_broken}
-use Rattle.machine.specs.Run.{Scene, scene_of, act, answer_breaks, step_at, strays, strays_in}
+use Rattle.machine.specs.Run.{Scene, scene_of, act, answer_breaks, goes_middle, is_allowed, reads_allowed, returns_elsewhere, step_at, strays, takes_broken}
 use Rattle.machine.specs.Steps.{go_on, judged, steps}
 use Rattle.machine.proofs.Fetching.{decoded_is}
 use Rattle.machine.proofs.Staying.{more_steps}
@@ -47,6 +49,94 @@ quiet_more sc n a b c s t u q e k = record {
   ];
 }
 
+-- Fewer than n steps lead along from an address and a state without calls, and the next one ends the run.
+pub record Stops (sc : Scene) (n a : ℕ) (s : State) (e : Ending) : Type 0 where
+  pub count : ℕ
+  pub fewer : count < n
+  pub at : ℕ
+  pub state : State
+  pub quiet : Quiet sc count a s at state
+  pub ends : step_at sc at state ≡ Finished e
+
+pub stops_later : (sc : Scene) (n k a : ℕ) (s : State) (e : Ending) → n ≤ k → Stops sc n a s e → Stops sc k a s e
+stops_later sc n k a s e l p = record { count = p.count; fewer = omega (arith, l, p.fewer); at = p.at; state = p.state; quiet = p.quiet; ends = p.ends }
+
+-- ---- up to the first step that doesn't lead on
+
+abbrev counted : Onward State Ending → (ℕ → State → ℕ) → ℕ
+counted (At b t) f = suc (f b t)
+counted (Finished e) f = 1
+counted Strays f = 1
+counted Blank f = 1
+
+-- how many of n steps there are up to that one
+abbrev pub up_to : Scene → ℕ → ℕ → State → ℕ
+up_to sc zero a s = 0
+up_to sc (suc n) a s = counted (step_at sc a s) (up_to sc n)
+
+counted_some : (o : Onward State Ending) (f : ℕ → State → ℕ) → 1 ≤ counted o f
+counted_some (At b t) f = omega arith
+counted_some (Finished e) f = omega arith
+counted_some Strays f = omega arith
+counted_some Blank f = omega arith
+
+pub some_step : (sc : Scene) (n a : ℕ) (s : State) → 1 ≤ up_to sc (suc n) a s
+some_step sc n a s = counted_some (step_at sc a s) (up_to sc n)
+
+module _ (sc : Scene) where
+  -- where all lead on, all are counted
+  pub all_counted : (n a : ℕ) (s : State) (b : ℕ) (t : State) → run_from sc n a s ≡ At b t → up_to sc n a s ≡ n
+  all_counted zero a s b t h = refl
+  all_counted (suc n) a s b t h = by (step_at sc a s) refl (λ c u. all_counted n c u b t)
+    where
+      by : (o : Onward State Ending) → step_at sc a s ≡ o → ((c : ℕ) (u : State) → run_from sc n c u ≡ At b t → up_to sc n c u ≡ n) → up_to sc (suc n) a s ≡ suc n
+      by (At c u) e rest = ap (λ x. counted x (up_to sc n)) e ∙ ap (λ k. suc k) (rest c u (ap (λ x. go_on x (steps State Ending (step_at sc) n)) (sym e) ∙ h))
+      by (Finished x) e rest = absurd (let g : ◌≡◌ {A = Onward State Ending} (Finished x) (At b t) = ap (λ x. go_on x (steps State Ending (step_at sc) n)) (sym e) ∙ h in cc)
+      by Strays e rest = absurd (let g : ◌≡◌ {A = Onward State Ending} Strays (At b t) = ap (λ x. go_on x (steps State Ending (step_at sc) n)) (sym e) ∙ h in cc)
+      by Blank e rest = absurd (let g : ◌≡◌ {A = Onward State Ending} Blank (At b t) = ap (λ x. go_on x (steps State Ending (step_at sc) n)) (sym e) ∙ h in cc)
+
+  -- where one ends the run, those up to it are counted
+  pub end_counted : (k n a : ℕ) (s : State) (b : ℕ) (t : State) (x : Ending) → k < n → run_from sc k a s ≡ At b t → step_at sc b t ≡ Finished x → up_to sc n a s ≡ k + 1
+  end_counted k zero a s b t x l h e = absurd (let z : ⊥ = omega (arith, l) in z)
+  end_counted zero (suc n) a s b t x l h e =
+      let same : step_at sc a s ≡ Finished x = ap (λ o. go_on o (step_at sc)) h ∙ e in ap (λ o. counted o (up_to sc n)) same
+  end_counted (suc k) (suc n) a s b t x l h e = by (step_at sc a s) refl (λ c u g. end_counted k n c u b t x (omega (arith, l)) g e)
+    where
+      by : (o : Onward State Ending) → step_at sc a s ≡ o → ((c : ℕ) (u : State) → run_from sc k c u ≡ At b t → up_to sc n c u ≡ k + 1) → up_to sc (suc n) a s ≡ suc k + 1
+      by (At c u) g rest = ap (λ y. counted y (up_to sc n)) g ∙ ap (λ k. suc k) (rest c u (ap (λ y. go_on y (steps State Ending (step_at sc) k)) (sym g) ∙ h))
+          ∙ (let z : suc (k + 1) ≡ suc k + 1 = omega arith in z)
+      by (Finished y) g rest = absurd (let f : ◌≡◌ {A = Onward State Ending} (Finished y) (At b t) = ap (λ y. go_on y (steps State Ending (step_at sc) k)) (sym g) ∙ h in cc)
+      by Strays g rest = absurd (let f : ◌≡◌ {A = Onward State Ending} Strays (At b t) = ap (λ y. go_on y (steps State Ending (step_at sc) k)) (sym g) ∙ h in cc)
+      by Blank g rest = absurd (let f : ◌≡◌ {A = Onward State Ending} Blank (At b t) = ap (λ y. go_on y (steps State Ending (step_at sc) k)) (sym g) ∙ h in cc)
+
+  -- What is told of the steps up to the first one that doesn't lead on: before it each leads on without calls.
+  pub record Told (n a : ℕ) (s : State) (o : Onward State Ending) : Type 0 where
+    pub leads : run_from sc (up_to sc n a s) a s ≡ o
+    pub between : (i : ℕ) → i < up_to sc n a s → (c : ℕ) × (u : State) × (run_from sc i a s ≡ At c u) × (u.calls ≡ s.calls)
+
+  pub quiet_told : (n a : ℕ) (s : State) (b : ℕ) (t : State) → Quiet sc n a s b t → Told n a s (At b t)
+  quiet_told n a s b t q =
+      let same = all_counted n a s b t q.leads in
+      record {
+        leads = ap (λ k. run_from sc k a s) same ∙ q.leads;
+        between = λ i l. q.between i (subst (λ k. i < k) same l);
+      }
+
+  pub stops_told : (n a : ℕ) (s : State) (x : Ending) → Stops sc n a s x → Told n a s (Finished x)
+  stops_told n a s x p =
+      let same = end_counted p.count n a s p.at p.state x p.fewer p.quiet.leads p.ends in
+      record {
+        leads = ap (λ k. run_from sc k a s) same ∙ more_steps State Ending (step_at sc) p.count 1 a s ∙ ap (λ r. go_on r (steps State Ending (step_at sc) 1)) p.quiet.leads
+            ∙ ap (λ r. go_on r (steps State Ending (step_at sc) 0)) p.ends;
+        between = λ i l. elim (cases_lt i p.count) [
+          | inl k ↦ p.quiet.between i k
+          | inr ge ↦
+              let below : i < p.count + 1 = subst (λ k. i < k) same l in
+              let here : i ≡ p.count = omega (arith, below, ge) in
+              (p.at, p.state, ap (λ j. run_from sc j a s) here ∙ p.quiet.leads, p.quiet.calls)
+        ];
+      }
+
 -- ---- an address at which an instruction begins is inside
 
 some_opcode : (e : Bool) (op : ℕ) → 0 < length (opcode_bytes e op)
@@ -75,41 +165,61 @@ begins_inside m r a i n b = elim (cases_Bool (is_inside r a)) [
 
 -- ---- one step
 
--- a step that stores nothing and goes on, or to an address, leads there
-acts_next : (sc : Scene) (i : Inst) (at next : ℕ) (s : State) (e : Effect) → e.store ≡ None → e.go ≡ go.Next
-    → judged (strays sc i s e) (step_does e at next s) ≡ At next (record s { regs = e.regs; flags = e.flags })
-acts_next sc i at next s e h g =
-    ap (λ o. judged (is_broken sc.image sc.slot s.mem (stored s.mem o) || strays_in sc i s e.go) (leads e.go at next (record s { regs = e.regs; flags = e.flags; mem = stored s.mem o }))) h
-    ∙ ap (λ k. judged (is_broken sc.image sc.slot s.mem s.mem || strays_in sc i s k) (leads k at next (record s { regs = e.regs; flags = e.flags }))) g
-    ∙ ap (λ b. judged (b || false) (leads go.Next at next (record s { regs = e.regs; flags = e.flags }))) (unbroken sc.image sc.slot s.mem)
+-- a step that stores nothing, reads no undefined flag and goes on, or to an address, doesn't stray
+calm : (sc : Scene) (i : Inst) (s : State) (e : Effect) → e.store ≡ None → takes_broken sc s e.go ≡ false → returns_elsewhere sc s e.go ≡ false
+    → (is_stray e.go || goes_middle sc i e.go) ≡ false → reads_undefined i s.flags ≡ false → strays sc i s e ≡ false
+calm sc i s e h t r g u =
+    ap (λ o. (is_allowed i s e && (is_broken sc.image sc.slot s.mem (stored s.mem o) || takes_broken sc s e.go))
+        || (returns_elsewhere sc s e.go || (reads_undefined i s.flags || (reads_allowed i s && (is_stray e.go || goes_middle sc i e.go))))) h
+    ∙ ap (λ b. (is_allowed i s e && (b || takes_broken sc s e.go))
+        || (returns_elsewhere sc s e.go || (reads_undefined i s.flags || (reads_allowed i s && (is_stray e.go || goes_middle sc i e.go))))) (unbroken sc.image sc.slot s.mem)
+    ∙ ap (λ b. (is_allowed i s e && b)
+        || (returns_elsewhere sc s e.go || (reads_undefined i s.flags || (reads_allowed i s && (is_stray e.go || goes_middle sc i e.go))))) t
+    ∙ ap (λ b. b || (returns_elsewhere sc s e.go || (reads_undefined i s.flags || (reads_allowed i s && (is_stray e.go || goes_middle sc i e.go))))) (and-false (is_allowed i s e))
+    ∙ ap (λ b. b || (reads_undefined i s.flags || (reads_allowed i s && (is_stray e.go || goes_middle sc i e.go)))) r
+    ∙ ap (λ b. b || (reads_allowed i s && (is_stray e.go || goes_middle sc i e.go))) u
+    ∙ ap (λ b. reads_allowed i s && b) g
+    ∙ and-false (reads_allowed i s)
 
-acts_to : (sc : Scene) (i : Inst) (at next b : ℕ) (s : State) (e : Effect) → e.store ≡ None → e.go ≡ go.To b
-    → judged (strays sc i s e) (step_does e at next s) ≡ At b (record s { regs = e.regs; flags = e.flags })
-acts_to sc i at next b s e h g =
-    ap (λ o. judged (is_broken sc.image sc.slot s.mem (stored s.mem o) || strays_in sc i s e.go) (leads e.go at next (record s { regs = e.regs; flags = e.flags; mem = stored s.mem o }))) h
-    ∙ ap (λ k. judged (is_broken sc.image sc.slot s.mem s.mem || strays_in sc i s k) (leads k at next (record s { regs = e.regs; flags = e.flags }))) g
-    ∙ ap (λ t. judged (t || false) (leads (go.To b) at next (record s { regs = e.regs; flags = e.flags }))) (unbroken sc.image sc.slot s.mem)
+calm_next : (sc : Scene) (i : Inst) (s : State) (e : Effect) → e.store ≡ None → e.go ≡ go.Next → reads_undefined i s.flags ≡ false → strays sc i s e ≡ false
+calm_next sc i s e h g u = calm sc i s e h (ap (takes_broken sc s) g) (ap (returns_elsewhere sc s) g) (ap (λ k. is_stray k || goes_middle sc i k) g) u
 
--- the same without the tests of strays
-pub does_next : (at next : ℕ) (s : State) (e : Effect) → e.store ≡ None → e.go ≡ go.Next → step_does e at next s ≡ At next (record s { regs = e.regs; flags = e.flags })
-does_next at next s e h g =
-    ap (λ o. leads e.go at next (record s { regs = e.regs; flags = e.flags; mem = stored s.mem o })) h
-    ∙ ap (λ k. leads k at next (record s { regs = e.regs; flags = e.flags })) g
+calm_to : (sc : Scene) (i : Inst) (b : ℕ) (s : State) (e : Effect) → e.store ≡ None → e.go ≡ go.To b → reads_undefined i s.flags ≡ false → strays sc i s e ≡ false
+calm_to sc i b s e h g u = calm sc i s e h (ap (takes_broken sc s) g) (ap (returns_elsewhere sc s) g) (ap (λ k. is_stray k || goes_middle sc i k) g) u
+
+-- without the tests of strays, a step that stores nothing and goes on, or to an address, leads there, unless a read is refused
+pub does_next : (i : Inst) (at next : ℕ) (s : State) → (effect_in i next s).store ≡ None → (effect_in i next s).go ≡ go.Next
+    → instruction_does i at next s ≡ allowed (refused_read i s) s (At next (record s { regs = (effect_in i next s).regs; flags = (effect_in i next s).flags }))
+does_next i at next s h g =
+    let e = effect_in i next s in
+    ap (λ o. allowed (refused_read i s) s (allowed (refused_word s.pages.write o) s (leads e.go at next (record s { regs = e.regs; flags = e.flags; mem = stored s.mem o })))) h
+    ∙ ap (λ k. allowed (refused_read i s) s (leads k at next (record s { regs = e.regs; flags = e.flags }))) g
+
+pub does_to : (i : Inst) (at next b : ℕ) (s : State) → (effect_in i next s).store ≡ None → (effect_in i next s).go ≡ go.To b
+    → instruction_does i at next s ≡ allowed (refused_read i s) s (At b (record s { regs = (effect_in i next s).regs; flags = (effect_in i next s).flags }))
+does_to i at next b s h g =
+    let e = effect_in i next s in
+    ap (λ o. allowed (refused_read i s) s (allowed (refused_word s.pages.write o) s (leads e.go at next (record s { regs = e.regs; flags = e.flags; mem = stored s.mem o })))) h
+    ∙ ap (λ k. allowed (refused_read i s) s (leads k at next (record s { regs = e.regs; flags = e.flags }))) g
 
 module _ (m : List Segment) (r : Range) (decoded : ℕ → Option (Inst × ℕ)) (decodes : Decodes m r decoded) (start : Start) where
   abbrev pub scene : Scene
   scene = scene_of m r decoded start
 
   step_is : (a : ℕ) (i : Inst) (n : ℕ) (s : State) → BeginsAt m r a i n
-      → step_at scene a s ≡ judged (strays scene i s (effect_in i (next_of a n) s)) (step_does (effect_in i (next_of a n) s) a (next_of a n) s)
+      → step_at scene a s ≡ judged (strays scene i s (effect_in i (next_of a n) s)) (instruction_does i a (next_of a n) s)
   step_is a i n s b =
       ap (λ t. cond t (act scene a s (decoded a)) (judged (answer_breaks scene s.left s.mem) (leads (go.LeaveTo a) a a s))) (begins_inside m r a i n b)
       ∙ ap (λ o. act scene a s o) (decoded_is m r decoded a i n decodes b)
 
   pub step_next : (a : ℕ) (i : Inst) (n : ℕ) (s : State) → BeginsAt m r a i n → (effect_in i (next_of a n) s).store ≡ None → (effect_in i (next_of a n) s).go ≡ go.Next
-      → step_at scene a s ≡ At (next_of a n) (record s { regs = (effect_in i (next_of a n) s).regs; flags = (effect_in i (next_of a n) s).flags })
-  step_next a i n s b h g = step_is a i n s b ∙ acts_next scene i a (next_of a n) s (effect_in i (next_of a n) s) h g
+      → reads_undefined i s.flags ≡ false
+      → step_at scene a s ≡ allowed (refused_read i s) s (At (next_of a n) (record s { regs = (effect_in i (next_of a n) s).regs; flags = (effect_in i (next_of a n) s).flags }))
+  step_next a i n s b h g u =
+      step_is a i n s b ∙ ap (λ t. judged t (instruction_does i a (next_of a n) s)) (calm_next scene i s (effect_in i (next_of a n) s) h g u) ∙ does_next i a (next_of a n) s h g
 
   pub step_to : (a : ℕ) (i : Inst) (n to : ℕ) (s : State) → BeginsAt m r a i n → (effect_in i (next_of a n) s).store ≡ None → (effect_in i (next_of a n) s).go ≡ go.To to
-      → step_at scene a s ≡ At to (record s { regs = (effect_in i (next_of a n) s).regs; flags = (effect_in i (next_of a n) s).flags })
-  step_to a i n to s b h g = step_is a i n s b ∙ acts_to scene i a (next_of a n) to s (effect_in i (next_of a n) s) h g
+      → reads_undefined i s.flags ≡ false
+      → step_at scene a s ≡ allowed (refused_read i s) s (At to (record s { regs = (effect_in i (next_of a n) s).regs; flags = (effect_in i (next_of a n) s).flags }))
+  step_to a i n to s b h g u =
+      step_is a i n s b ∙ ap (λ t. judged t (instruction_does i a (next_of a n) s)) (calm_to scene i to s (effect_in i (next_of a n) s) h g u) ∙ does_to i a (next_of a n) to s h g

@@ -22,7 +22,7 @@ use Rattle.x86_formed.specs.Formed.{is_formed_operand}
 use Rattle.x86_model.specs.declared.effect.Effect.{Effect}
 use Rattle.x86_model.specs.declared.effect.Go.TheVariants as go
 use Rattle.x86_model.specs.Effects.{goes}
-use Rattle.x86_model.specs.Leads.{effect_in, step_of}
+use Rattle.x86_model.specs.Leads.{allowed, effect_in, refused_read, step_of}
 use Rattle.x86_model.specs.Machine.{At, State}
 use Rattle.x86_model.specs.Operands.{address_of, value_of}
 use Rattle.x86_model.specs.Rows.{is_bare}
@@ -127,12 +127,13 @@ jump_value (o.Imm k) next s = refl
 
 module _ (m : List Segment) (r : Range) (decoded : ℕ → Option (Inst × ℕ)) (decodes : Decodes m r decoded) (start : Start) where
   pub jump_step : (x : Index) (k : Known) (n at size count t : ℕ) (p : Operand) (s : State) → BeginsAt m r at (i.JmpTo p) size → table_of k.forms p ≡ Some t
-      → Holds x n k s → AreBytes s.mem → Frozen m s.mem → Entries m t count → n < count → step_at (scene m r decoded decodes start) at s ≡ At (frozen_word m (t + 4 * n)) s
+      → Holds x n k s → AreBytes s.mem → Frozen m s.mem → Entries m t count → n < count
+      → step_at (scene m r decoded decodes start) at s ≡ allowed (refused_read (i.JmpTo p) s) s (At (frozen_word m (t + 4 * n)) s)
   jump_step x k n at size count t p s b g h bytes frozen entries l =
       let next : ℕ = (at + size) % 2 ^ 32 in
       let a = step_of (i.JmpTo p) next s in
       let value : value_of W p a ≡ frozen_word m (t + 4 * n) = jump_value p next s ∙ goal_is x k n t p s h bytes (begins_formed m r at (i.JmpTo p) size b) g ∙ word_is m s.mem frozen t count entries n l in
       let e : effect_in (i.JmpTo p) next s ≡ goes (go.To (frozen_word m (t + 4 * n))) a =
       ap (λ q. goes (if q then go.LeaveTo (value_of W p a) else go.To (value_of W p a)) a) (loose k.forms p t g) ∙ ap (λ v. goes (go.To v) a) value in
-      step_to m r decoded decodes start at (i.JmpTo p) size (frozen_word m (t + 4 * n)) s b (ap (λ f. f.store) e) (ap (λ f. f.go) e)
-      ∙ ap (λ (f : Effect). At (frozen_word m (t + 4 * n)) (with_regs s f.regs f.flags)) e
+      step_to m r decoded decodes start at (i.JmpTo p) size (frozen_word m (t + 4 * n)) s b (ap (λ f. f.store) e) (ap (λ f. f.go) e) refl
+      ∙ ap (λ (f : Effect). allowed (refused_read (i.JmpTo p) s) s (At (frozen_word m (t + 4 * n)) (with_regs s f.regs f.flags))) e
