@@ -8,7 +8,10 @@ use Rattle.dream_words.specs.declared.machine.Name.TheVariants as name
 use Rattle.dream_words.specs.declared.outcome.Answer.{Answer}
 use Rattle.dream_words.specs.declared.outcome.Call.{Call}
 use Rattle.dream_words.specs.declared.outcome.Outcome.{Outcome}
-use Rattle.run_parts.specs.Effects.{Doing, answered_by, loading, setting, storing, calling, trapping}
+use Rattle.dream_words.specs.declared.outcome.Outcome.TheVariants as outcome
+use Rattle.dream_words.specs.Memory.{load, store, bytes_of}
+use Rattle.dream_words.specs.Pages.{first_bad}
+use Rattle.run_parts.specs.Effects.{Doing, allowing, answered_by, loading, set_word, setting, storing, calling, trapping}
 use Rattle.run_parts.specs.Steps.{Next, Halt, Jam, having, then_do}
 use Rattle.run_parts.specs.World.{Names, World, with_name}
 use Rattle.c_syntax.specs.Run.{word_in}
@@ -19,7 +22,7 @@ use Rattle.micro_ir.specs.Rule.{are_flow_stmts}
 use Rattle.micro_ir.specs.Run.{stmt_does, stmts_do}
 use Rattle.micro_ir.specs.World.{IsWorld}
 use Rattle.micro_ir.proofs.Worlds.{stmts_stay}
-use Rattle.lift_parts.specs.Shown.{Runs}
+use Rattle.lift_parts.specs.Shown.{Runs, RunsTo}
 use Rattle.window_blocks.specs.Locals.{is_local, sets}
 
 -- ---- one list after another
@@ -32,6 +35,22 @@ then_after Jam f g h e = refl
 pub append_does : (xs ys : List Stmt) (w : World) → stmts_do (xs ++ ys) w ≡ then_do (stmts_do xs w) (stmts_do ys)
 append_does [] ys w = refl
 append_does (x ∷ xs) ys w = then_after (stmt_does x w) (stmts_do (xs ++ ys)) (stmts_do xs) (stmts_do ys) (append_does xs ys)
+
+-- a list that ends the run, and more after it
+pub halts_append : (xs ys : List Stmt) (w : World) (o : Outcome) → stmts_do xs w ≡ Halt o → stmts_do (xs ++ ys) w ≡ Halt o
+halts_append xs ys w o h = append_does xs ys w ∙ ap (λ d. then_do d (stmts_do ys)) h
+
+-- a list that ends the run, after one that leads on
+pub halts_then : (xs ys : List Stmt) (w v : World) (o : Outcome) → Runs xs w v → stmts_do ys v ≡ Halt o → stmts_do (xs ++ ys) w ≡ Halt o
+halts_then xs ys w v o r h = append_does xs ys w ∙ ap (λ d. then_do d (stmts_do ys)) r.runs ∙ h
+
+-- where no access is refused statements lead on
+pub runs_on : (bad : Option ℕ) (ss : List Stmt) (w u : World) → bad ≡ None → RunsTo bad ss w u → Runs ss w u
+runs_on bad ss w u e r = record { runs = r.runs ∙ ap (λ o. allowing o w (Next u)) e }
+
+-- where one is refused they end with its fault
+pub runs_out : (bad : Option ℕ) (ss : List Stmt) (w u : World) (at : ℕ) → bad ≡ Some at → RunsTo bad ss w u → stmts_do ss w ≡ Halt (outcome.Faulted 14 at w.mem w.calls)
+runs_out bad ss w u at e r = r.runs ∙ ap (λ o. allowing o w (Next u)) e
 
 -- what comes after the first list
 pub runs_rest : (xs ys : List Stmt) (w v u : World) → Runs xs w v → Runs (xs ++ ys) w u → Runs ys v u
@@ -57,6 +76,13 @@ settles_by Jam h k = h
 
 pub settles : (ss : List Stmt) (w : World) → IsTrue (are_flow_stmts ss) → IsDone (stmts_do ss w) → IsWorld w → Settles (stmts_do ss w)
 settles ss w t h i = settles_by (stmts_do ss w) h (stmts_stay ss w t i)
+
+access_done : (bad : Option ℕ) (w : World) (d : Doing) → IsDone d → IsDone (allowing bad w d)
+access_done None w d h = h
+access_done (Some at) w d h = tt
+
+pub runs_settle : (bad : Option ℕ) (ss : List Stmt) (w u : World) → IsTrue (are_flow_stmts ss) → IsWorld w → RunsTo bad ss w u → Settles (stmts_do ss w)
+runs_settle bad ss w u t i r = settles ss w t (subst IsDone (sym r.runs) (access_done bad w (Next u) tt)) i
 
 then_settles : (d : Doing) (k : World → Doing) → Settles d → ((w : World) → IsWorld w → Settles (k w)) → Settles (then_do d k)
 then_settles (Next w) k h g = g w h
@@ -94,6 +120,11 @@ having_keeps : (k : ℕ) (w : World) (o : Option ℕ) (f : ℕ → Doing) → ((
 having_keeps k w None f h = tt
 having_keeps k w (Some x) f h = h x
 
+-- an access that may be refused
+access_keeps : (k : ℕ) (w : World) (bad : Option ℕ) (d : Doing) → Keeps k w d → Keeps k w (allowing bad w d)
+access_keeps k w None d h = h
+access_keeps k w (Some at) d h = tt
+
 answered_keeps : (k : ℕ) (w : World) (left : List Answer) (calls : List Call) → Keeps k w (answered_by left calls w)
 answered_keeps k w [] calls = tt
 answered_keeps k w (a ∷ rest) calls = refl
@@ -104,9 +135,11 @@ trap_keeps k w false o = tt
 
 stmt_keeps : (k : ℕ) (w : World) (s : Stmt) → sets k s ≡ false → Keeps k w (stmt_does s w)
 stmt_keeps k w (stmt.Set n e) h = having_keeps k w (word_in e w) (λ x. setting n x w) (λ x. name_keeps k w.names n x h)
-stmt_keeps k w (stmt.Load n width e) h = having_keeps k w (word_in e w) (λ at. loading n width at w) (λ at. name_keeps k w.names n _ h)
+stmt_keeps k w (stmt.Load n width e) h = having_keeps k w (word_in e w) (λ at. loading n width at w)
+    (λ at. access_keeps k w (first_bad w.pages.read at (bytes_of width)) (Next (set_word n (load w.mem at (bytes_of width)) w)) (name_keeps k w.names n (load w.mem at (bytes_of width)) h))
 stmt_keeps k w (stmt.Store width e f) h =
-    having_keeps k w (word_in e w) (λ at. having (word_in f w) (λ x. storing width at x w)) (λ at. having_keeps k w (word_in f w) (λ x. storing width at x w) (λ x. refl))
+    having_keeps k w (word_in e w) (λ at. having (word_in f w) (λ x. storing width at x w)) (λ at. having_keeps k w (word_in f w) (λ x. storing width at x w)
+    (λ x. access_keeps k w (first_bad w.pages.write at (bytes_of width)) (Next (record w { mem = store w.mem at (bytes_of width) x })) refl))
 stmt_keeps k w (stmt.Ext e) h = having_keeps k w (word_in e w) (λ target. calling target w) (λ target. answered_keeps k w w.left _)
 stmt_keeps k w (stmt.Trap vector e) h = having_keeps k w (word_in e w) (λ x. trapping vector x w) (λ x. trap_keeps k w (nat_eq x 0) _)
 

@@ -1,5 +1,5 @@
 -- What the statements along a path do: they keep up with the machine, and what is known after its instructions holds.
-use Rattle.std.proofs.Common.{◌≡◌, ℕ, ◌+◌, ◌%◌, ◌^◌, ◌<◌, Bool, true, false, if◌then◌else◌, List, [], ◌∷◌, ◌++◌, length, length-append, Option, refl, sym, subst, arith}
+use Rattle.std.proofs.Common.{ℕ, ◌+◌, ◌%◌, ◌^◌, ◌<◌, Bool, true, false, if◌then◌else◌, List, [], ◌∷◌, ◌++◌, length, length-append, Option, Some, None, ◌≡◌, ◌⊎◌, inl, inr, refl, sym, ap, ◌∙◌, subst, arith}
 use Rattle.std.specs.Prelude.{IsTrue, ◌&&◌, ◌||◌, not, ◌==◌}
 use Rattle.elf_image.specs.declared.image.Segment.{Segment}
 use Rattle.elf_image.specs.declared.range.Range.{Range}
@@ -7,10 +7,12 @@ use Rattle.dream_words.specs.declared.outcome.Start.{Start}
 use Rattle.dream_words.specs.Ranges.{AreBytes}
 use Rattle.dream_words.specs.Registers.{reg_of}
 use Rattle.x86_inst.specs.declared.Inst.{Inst}
-use Rattle.x86_model.specs.Machine.{State}
+use Rattle.x86_model.specs.Leads.{allowed, refused_read}
+use Rattle.x86_model.specs.Machine.{Onward, At, State, Ending, Faulted, ending_outcome}
 use Rattle.x86_model.specs.Successors.{is_memory}
-use Rattle.machine.specs.Code.{Decodes}
-use Rattle.machine.specs.Run.{Scene}
+use Rattle.machine.specs.Code.{BeginsAt, Decodes}
+use Rattle.machine.specs.Run.{Scene, step_at}
+use Rattle.run_parts.specs.Steps.{Halt}
 use Rattle.run_parts.specs.World.{World}
 use Rattle.micro_ir.specs.declared.flow.Block.{Block}
 use Rattle.micro_ir.specs.declared.flow.Stmt.{Stmt}
@@ -24,16 +26,16 @@ use Rattle.lift_parts.specs.Stands.{Stands}
 use Rattle.lift_parts.proofs.Chains.{none_run, runs_append}
 use Rattle.lift_parts.proofs.Sureness.{both_true}
 use Rattle.lift_parts.proofs.Values.{names_of_world, reg_fits}
-use Rattle.jump_tables.specs.Forms.{Index, Known, after, after_all}
+use Rattle.jump_tables.specs.Forms.{Index, Known, after, after_all, is_on_path}
 use Rattle.jump_tables.specs.Window.{next_of}
 use Rattle.window_steps.specs.Knowledge.{Holds}
 use Rattle.window_steps.proofs.Moves.{RegsFit}
-use Rattle.window_steps.proofs.Paths.{Move, path_move, path_step, state_after, mov, movzx, lea, shl, add}
-use Rattle.window_steps.proofs.Quiet.{Quiet, quiet_more, scene}
+use Rattle.window_steps.proofs.Paths.{Move, Steps, path_move, path_step, state_after, mov, movzx, lea, shl, add}
+use Rattle.window_steps.proofs.Quiet.{Quiet, Stops, quiet_more, scene, stops_later}
 use Rattle.window_steps.proofs.Tables.{Frozen}
 use Rattle.window_blocks.specs.Path.{LiftedPath, none, more}
-use Rattle.window_blocks.proofs.Doing.{Settles, settles_append, world_there}
-use Rattle.window_blocks.proofs.Straight.{IsStraight, straight_calls, straight_flow, straight_runs, straight_settles, straight_stores}
+use Rattle.window_blocks.proofs.Doing.{Settles, halts_append, halts_then, settles_append, world_there}
+use Rattle.window_blocks.proofs.Straight.{IsStraight, straight_calls, straight_flow, straight_halts, straight_runs, straight_settles, straight_stores}
 
 -- ---- the instructions of a path go on
 
@@ -74,33 +76,85 @@ pub record Along (sc : Scene) (m : List Segment) (x : Index) (n count a : ℕ) (
   pub frozen : Frozen m state.mem
   pub holds : Holds x n k state
 
+-- Fewer than so many steps lead along, and the next one faults, as the statements do.
+pub record EndsThere (sc : Scene) (count a : ℕ) (s : State) (stmts : List Stmt) (w : World) : Type 0 where
+  pub ending : Ending
+  pub stops : Stops sc count a s ending
+  pub halts : stmts_do stmts w ≡ Halt (ending_outcome ending)
+
+-- A step from a state to which so many quiet ones led, of which a read is refused, ends the run.
+pub stops_here : (sc : Scene) (count a at : ℕ) (s t : State) (bad : ℕ) (o : Option ℕ) (then : Onward State Ending) → Quiet sc count a s at t
+    → step_at sc at t ≡ allowed o t then → o ≡ Some bad → Stops sc (count + 1) a s (Faulted 14 bad t.mem t.calls)
+stops_here sc count a at s t bad o then q e h =
+    record { count = count; fewer = omega arith; at = at; state = t; quiet = q; ends = e ∙ ap (λ x. allowed x t then) h }
+
 module _ (m : List Segment) (r : Range) (decoded : ℕ → Option (Inst × ℕ)) (decodes : Decodes m r decoded) (start : Start) where
-  pub path_along : (x : Index) (n count a from at : ℕ) (s t : State) (k : Known) (w : World) (insts : List Inst) (stmts : List Stmt) → Quiet (scene m r decoded decodes start) count a s from t
+  abbrev sc : Scene
+  sc = scene m r decoded decodes start
+
+  -- one more instruction of a path
+  along_more : (x : Index) (n count a at size : ℕ) (s : State) (k : Known) (w : World) (insts : List Inst) (inst : Inst) (stmts : List Stmt) (b : Block)
+      → BeginsAt m r at inst size → is_on_path inst ≡ true → AreBlocksOf inst at (next_of at size) (b ∷ [])
+      → Along sc m x n (count + length insts) a s at (after_all x k insts) stmts w
+      → EndsThere sc (count + length (insts ++ inst ∷ [])) a s (stmts ++ b.stmts) w
+      ⊎ Along sc m x n (count + length (insts ++ inst ∷ [])) a s (next_of at size) (after_all x k (insts ++ inst ∷ [])) (stmts ++ b.stmts) w
+  along_more x n count a at size s k w insts inst stmts b begins on blocks p = by (refused_read inst p.state) refl
+    where
+      known : Known
+      known = after_all x k insts
+      next : ℕ
+      next = next_of at size
+      given : Steps sc x known n at next inst p.state
+      given = path_step m r decoded decodes start x known n at size inst p.state begins on p.holds (regs_fit p.state p.world p.is p.stands) (bytes_fit p.state p.world p.is p.stands)
+      straight : IsStraight inst at next b
+      straight = move_straight inst at next b (path_move inst on) blocks
+      total : count + length insts + 1 ≡ count + length (insts ++ inst ∷ [])
+      total = let long = length-append insts (inst ∷ []) in let one : length (inst ∷ []) ≡ 1 = refl in omega (arith, long, one)
+      there : Onward State Ending
+      there = At next (state_after inst next p.state)
+      by : (o : Option ℕ) → refused_read inst p.state ≡ o
+          → EndsThere sc (count + length (insts ++ inst ∷ [])) a s (stmts ++ b.stmts) w
+          ⊎ Along sc m x n (count + length (insts ++ inst ∷ [])) a s next (after_all x k (insts ++ inst ∷ [])) (stmts ++ b.stmts) w
+      by (Some bad) e = inl (record {
+        ending = Faulted 14 bad p.state.mem p.state.calls;
+        stops = subst (λ c. Stops sc c a s (Faulted 14 bad p.state.mem p.state.calls)) total (stops_here sc (count + length insts) a at s p.state bad (refused_read inst p.state) there p.quiet given.step e);
+        halts = halts_then stmts b.stmts w p.world (ending_outcome (Faulted 14 bad p.state.mem p.state.calls)) p.runs (straight_halts inst at next b straight p.state p.world p.is p.stands given.stores given.goes bad e);
+      })
+      by None e =
+          let u = straight_runs inst at next b straight p.state p.world p.is p.stands given.stores given.goes e in
+          inr (record {
+            state = state_after inst next p.state;
+            world = u.0;
+            quiet = subst (λ c. Quiet sc c a s next (state_after inst next p.state)) total
+                (quiet_more sc (count + length insts) a at next s p.state (state_after inst next p.state) p.quiet (given.step ∙ ap (λ o. allowed o p.state there) e) refl);
+            runs = runs_append stmts b.stmts p.runs u.1;
+            is = world_there b.stmts p.world u.0 (straight_flow inst at next b straight) p.is u.1;
+            stands = u.2;
+            frozen = p.frozen;
+            holds = subst (λ c. Holds x n c (state_after inst next p.state)) (sym (after_one_more x k insts inst)) given.holds;
+          })
+
+  ends_later : (x : Index) (n count a at size : ℕ) (s : State) (w : World) (insts : List Inst) (inst : Inst) (stmts : List Stmt) (b : Block)
+      → EndsThere sc (count + length insts) a s stmts w → EndsThere sc (count + length (insts ++ inst ∷ [])) a s (stmts ++ b.stmts) w
+  ends_later x n count a at size s w insts inst stmts b p =
+      let long = length-append insts (inst ∷ []) in
+      record {
+        ending = p.ending;
+        stops = stops_later sc (count + length insts) (count + length (insts ++ inst ∷ [])) a s p.ending (omega (arith, long)) p.stops;
+        halts = halts_append stmts b.stmts w (ending_outcome p.ending) p.halts;
+      }
+
+  pub path_along : (x : Index) (n count a from at : ℕ) (s t : State) (k : Known) (w : World) (insts : List Inst) (stmts : List Stmt) → Quiet sc count a s from t
       → IsWorld w → Stands t w → Frozen m t.mem → Holds x n k t → LiftedPath m r from at insts stmts
-      → Along (scene m r decoded decodes start) m x n (count + length insts) a s at (after_all x k insts) stmts w
+      → EndsThere sc (count + length insts) a s stmts w ⊎ Along sc m x n (count + length insts) a s at (after_all x k insts) stmts w
   path_along x n count a from _ s t k w _ _ q i st f h none =
       let same : count ≡ count + 0 = omega arith in
-      record { state = t; world = w; quiet = subst (λ c. Quiet (scene m r decoded decodes start) c a s from t) same q; runs = none_run w; is = i; stands = st; frozen = f; holds = h }
+      inr (record { state = t; world = w; quiet = subst (λ c. Quiet sc c a s from t) same q; runs = none_run w; is = i; stands = st; frozen = f; holds = h })
   path_along x n count a from _ s t k w _ _ q i st f h (more at size insts inst stmts b before begins on blocks) =
-      let p = path_along x n count a from at s t k w insts stmts q i st f h before in
-      let known : Known = after_all x k insts in
-      let (step, does, held) = path_step m r decoded decodes start x known n at size inst p.state begins on p.holds (regs_fit p.state p.world p.is p.stands) (bytes_fit p.state p.world p.is p.stands) in
-      let next : ℕ = next_of at size in
-      let straight = move_straight inst at next b (path_move inst on) blocks in
-      let u = straight_runs inst at next b straight p.state (state_after inst next p.state) p.world p.is p.stands does in
-      let long = length-append insts (inst ∷ []) in
-      let one : length (inst ∷ []) ≡ 1 = refl in
-      let total : count + length insts + 1 ≡ count + length (insts ++ inst ∷ []) = omega (arith, long, one) in
-      record {
-        state = state_after inst next p.state;
-        world = u.0;
-        quiet = subst (λ c. Quiet (scene m r decoded decodes start) c a s next (state_after inst next p.state)) total (quiet_more (scene m r decoded decodes start) (count + length insts) a at next s p.state (state_after inst next p.state) p.quiet step refl);
-        runs = runs_append stmts b.stmts p.runs u.1;
-        is = world_there b.stmts p.world u.0 (straight_flow inst at next b straight) p.is u.1;
-        stands = u.2;
-        frozen = p.frozen;
-        holds = subst (λ c. Holds x n c (state_after inst next p.state)) (sym (after_one_more x k insts inst)) held;
-      }
+      elim (path_along x n count a from at s t k w insts stmts q i st f h before) [
+        | inl p ↦ inl (ends_later x n count a at size s w insts inst stmts b p)
+        | inr p ↦ along_more x n count a at size s k w insts inst stmts b begins on blocks p
+      ]
 
 -- ---- from every world
 

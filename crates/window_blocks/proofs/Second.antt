@@ -11,7 +11,7 @@ use Rattle.x86_inst.specs.declared.Operand.{Operand}
 use Rattle.x86_inst.specs.declared.Size.TheVariants.{W}
 use Rattle.x86_formed.specs.Formed.{is_formed_operand}
 use Rattle.x86_model.specs.declared.effect.Step.{Step}
-use Rattle.x86_model.specs.Leads.{read_by, step_of}
+use Rattle.x86_model.specs.Leads.{read_by, refused, step_of}
 use Rattle.x86_model.specs.Machine.{State}
 use Rattle.x86_model.specs.Reads.{operand_read}
 use Rattle.run_parts.specs.Effects.{Doing}
@@ -27,19 +27,19 @@ use Rattle.micro_ir.specs.declared.flow.Stmt.{Stmt}
 use Rattle.micro_ir.specs.Run.{block_leads, by_value, end_leads, first_case, stmts_do}
 use Rattle.micro_ir.specs.World.{IsWorld}
 use Rattle.lift_parts.specs.Parts.{reads}
-use Rattle.lift_parts.specs.Shown.{Runs, Shows}
+use Rattle.lift_parts.specs.Shown.{Runs, RunsTo, Shows}
 use Rattle.lift_parts.specs.Stands.{Stands, state_in}
 use Rattle.lift_parts.proofs.Fit.{reads_fit}
 use Rattle.lift_parts.proofs.Kept.{flags_stay, reads_run}
 use Rattle.lift_parts.proofs.Values.{names_of_world}
 use Rattle.window_blocks.specs.Locals.{sets}
-use Rattle.window_blocks.proofs.Doing.{Keeps, Settles, local_there, stmts_keep, world_there}
+use Rattle.window_blocks.proofs.Doing.{Keeps, Settles, local_there, runs_settle, stmts_keep}
 use Rattle.window_blocks.proofs.PathRuns.{AreQuiet}
 
 -- ---- the read of the jump's word
 
 -- from a world that stands for a state it leads to another one that does
-pub reads_stand : (p : Operand) (next : ℕ) (s : State) (w : World) → IsWorld w → Stands s w → (u : World) × Runs (reads W p) w u × Stands s u
+pub reads_stand : (p : Operand) (next : ℕ) (s : State) (w : World) → IsWorld w → Stands s w → (u : World) × RunsTo (refused w.pages.read (operand_read W p s.regs s.fs s.gs)) (reads W p) w u × Stands s u
 reads_stand p next s w is st =
     let a : Step = step_of (i.JmpTo p) next s in
     let shown : Shows a w.names = record { regs = sym st.regs; fs = sym st.fs; gs = sym st.gs } in
@@ -52,6 +52,7 @@ reads_stand p next s w is st =
         fs = st.fs ∙ sym read.fs;
         gs = st.gs ∙ sym read.gs;
         mem = st.mem ∙ sym read.mem;
+        pages = st.pages ∙ sym read.pages;
         left = st.left ∙ sym read.left;
         calls = st.calls ∙ sym read.calls;
       },
@@ -66,14 +67,15 @@ any_state w = state_in w (record { c = Undefined; p = Undefined; z = Undefined; 
 
 pub any_stands : (w : World) → Stands (any_state w) w
 unfolding any_state
-any_stands w = record { regs = refl; flags = record { c = tt; p = tt; z = tt; s = tt; o = tt }; fs = refl; gs = refl; mem = refl; left = refl; calls = refl }
+any_stands w = record { regs = refl; flags = record { c = tt; p = tt; z = tt; s = tt; o = tt }; fs = refl; gs = refl; mem = refl; pages = refl; left = refl; calls = refl }
 
 pub reads_quiet : (p : Operand) → is_formed_operand p ≡ true → AreQuiet (reads W p)
 reads_quiet p e =
     let f = reads_fit W p e in
     record {
       flow = f.flow;
-      settles = λ w is. let (u, runs, st) = reads_stand p 0 (any_state w) w is (any_stands w) in subst Settles (sym runs.runs) (world_there (reads W p) w u f.flow is runs);
+      settles = λ w is. let (u, runs, st) = reads_stand p 0 (any_state w) w is (any_stands w) in
+          runs_settle (refused w.pages.read (operand_read W p (any_state w).regs (any_state w).fs (any_state w).gs)) (reads W p) w u f.flow is runs;
       stores = f.stored;
       calls = f.called;
     }

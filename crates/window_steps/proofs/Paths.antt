@@ -23,7 +23,7 @@ use Rattle.x86_formed.specs.Formed.{is_formed, is_formed_mem, is_formed_operand,
 use Rattle.x86_formed.proofs.Spelled.{spelled_is_formed}
 use Rattle.x86_model.specs.declared.effect.Effect.{Effect}
 use Rattle.x86_model.specs.Undefined.{reads_undefined}
-use Rattle.x86_model.specs.Leads.{allowed, refused_read, effect_in, instruction_does}
+use Rattle.x86_model.specs.Leads.{allowed, effect_in, refused_read}
 use Rattle.x86_model.specs.Machine.{At, State}
 use Rattle.x86_model.specs.Successors.{is_memory}
 use Rattle.machine.specs.Code.{BeginsAt, Decodes}
@@ -164,11 +164,12 @@ move_calm _ f (add size d v) = refl
 abbrev pub state_after : Inst → ℕ → State → State
 state_after inst next s = with_regs s (effect_in inst next s).regs (effect_in inst next s).flags
 
--- What a step does at an instruction of a path: unless its read is refused it leads on, for the machine with and without the
--- tests of strays, and what is known after it holds.
+-- What a step does at an instruction of a path: it stores nothing and goes on, unless its read is refused, and what is known after
+-- it holds.
 pub record Steps (sc : Scene) (x : Index) (k : Known) (n at next : ℕ) (inst : Inst) (s : State) : Type 0 where
   pub step : step_at sc at s ≡ allowed (refused_read inst s) s (At next (state_after inst next s))
-  pub does : instruction_does inst at next s ≡ allowed (refused_read inst s) s (At next (state_after inst next s))
+  pub stores : (effect_in inst next s).store ≡ None
+  pub goes : (effect_in inst next s).go ≡ go.Next
   pub holds : Holds x n (after x k inst) (state_after inst next s)
 
 module _ (m : List Segment) (r : Range) (decoded : ℕ → Option (Inst × ℕ)) (decodes : Decodes m r decoded) (start : Start) where
@@ -179,6 +180,7 @@ module _ (m : List Segment) (r : Range) (decoded : ℕ → Option (Inst × ℕ))
       let t = move_sets x k n s h fit bytes inst (next_of at size) move (begins_formed m r at inst size b) in
       record {
         step = step_next m r decoded decodes start at inst size s b t.stores t.goes (move_calm inst s.flags move);
-        does = does_next inst at (next_of at size) s t.stores t.goes;
+        stores = t.stores;
+        goes = t.goes;
         holds = after_holds x k n s h inst (effect_in inst (next_of at size) s) t;
       }

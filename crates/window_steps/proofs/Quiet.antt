@@ -80,8 +80,9 @@ counted_some (Finished e) f = omega arith
 counted_some Strays f = omega arith
 counted_some Blank f = omega arith
 
-pub some_step : (sc : Scene) (n a : ℕ) (s : State) → 1 ≤ up_to sc (suc n) a s
-some_step sc n a s = counted_some (step_at sc a s) (up_to sc n)
+pub some_step : (sc : Scene) (n a : ℕ) (s : State) → 0 < n → 1 ≤ up_to sc n a s
+some_step sc zero a s l = absurd (let z : ⊥ = omega (arith, l) in z)
+some_step sc (suc n) a s l = counted_some (step_at sc a s) (up_to sc n)
 
 module _ (sc : Scene) where
   -- where all lead on, all are counted
