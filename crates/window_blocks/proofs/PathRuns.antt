@@ -83,10 +83,10 @@ pub record EndsThere (sc : Scene) (count a : ℕ) (s : State) (stmts : List Stmt
   pub halts : stmts_do stmts w ≡ Halt (ending_outcome ending)
 
 -- A step from a state to which so many quiet ones led, of which a read is refused, ends the run.
-pub stops_here : (sc : Scene) (count a at : ℕ) (s t : State) (bad : ℕ) (o : Option ℕ) (then : Onward State Ending) → Quiet sc count a s at t
-    → step_at sc at t ≡ allowed o t then → o ≡ Some bad → Stops sc (count + 1) a s (Faulted 14 bad t.mem t.calls)
-stops_here sc count a at s t bad o then q e h =
-    record { count = count; fewer = omega arith; at = at; state = t; quiet = q; ends = e ∙ ap (λ x. allowed x t then) h }
+pub stops_here : (sc : Scene) (count a at : ℕ) (s t : State) (bad : ℕ) (o : Option ℕ) (led : Onward State Ending) → Quiet sc count a s at t
+    → step_at sc at t ≡ allowed o t led → o ≡ Some bad → Stops sc (count + 1) a s (Faulted 14 bad t.mem t.calls)
+stops_here sc count a at s t bad o led q e h =
+    record { count = count; fewer = omega arith; at = at; state = t; quiet = q; ends = e ∙ ap (λ x. allowed x t led) h }
 
 module _ (m : List Segment) (r : Range) (decoded : ℕ → Option (Inst × ℕ)) (decodes : Decodes m r decoded) (start : Start) where
   abbrev sc : Scene
@@ -102,16 +102,22 @@ module _ (m : List Segment) (r : Range) (decoded : ℕ → Option (Inst × ℕ))
     where
       known : Known
       known = after_all x k insts
+
       next : ℕ
       next = next_of at size
+
       given : Steps sc x known n at next inst p.state
       given = path_step m r decoded decodes start x known n at size inst p.state begins on p.holds (regs_fit p.state p.world p.is p.stands) (bytes_fit p.state p.world p.is p.stands)
+
       straight : IsStraight inst at next b
       straight = move_straight inst at next b (path_move inst on) blocks
+
       total : count + length insts + 1 ≡ count + length (insts ++ inst ∷ [])
       total = let long = length-append insts (inst ∷ []) in let one : length (inst ∷ []) ≡ 1 = refl in omega (arith, long, one)
+
       there : Onward State Ending
       there = At next (state_after inst next p.state)
+
       by : (o : Option ℕ) → refused_read inst p.state ≡ o
           → EndsThere sc (count + length (insts ++ inst ∷ [])) a s (stmts ++ b.stmts) w
           ⊎ Along sc m x n (count + length (insts ++ inst ∷ [])) a s next (after_all x k (insts ++ inst ∷ [])) (stmts ++ b.stmts) w

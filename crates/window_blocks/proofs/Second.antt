@@ -1,5 +1,5 @@
 -- The second block of a window: the path, and the switch by the copy of the index.
-use Rattle.std.proofs.Common.{◌≡◌, ◌⊎◌, inl, inr, ℕ, ◌+◌, ◌<◌, true, false, List, Some, refl, sym, ap, ◌∙◌, subst}
+use Rattle.std.proofs.Common.{◌≡◌, ◌⊎◌, inl, inr, ℕ, ◌+◌, ◌<◌, true, false, List, Some, refl, sym, ap, ◌∙◌}
 use Rattle.std.specs.List.{list_any}
 use Rattle.dream_words.specs.declared.machine.Bit.TheVariants.{Undefined}
 use Rattle.dream_words.specs.declared.machine.Flags.{Flags}

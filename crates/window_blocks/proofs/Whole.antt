@@ -245,19 +245,25 @@ module _ (m : List Segment) (r : Range) (a : ℕ) (w : TableWindow) (win : IsWin
       where
         lt : value s < w.count
         lt = ltb-true (value s) w.count (sym c)
+
         known : Known
         known = after_all win.index (at_first win.index) win.insts
+
         there : Onward State Ending
         there = At (frozen_word m (w.table + 4 * value s)) along.state
+
         step : step_at sc w.jump along.state ≡ allowed (refused_read (i.JmpTo win.goal) along.state) along.state there
         step = jump_step m r decoded decodes start win.index known (value s) w.jump win.jump_size w.count w.table win.goal along.state win.jumps win.through along.holds
             (bytes_fit along.state along.world along.is along.stands) along.frozen win.entries lt
+
         read : ℕ × ℕ → (v : World) × RunsTo (refused along.world.pages.read (operand_read W win.goal along.state.regs along.state.fs along.state.gs)) (reads W win.goal) along.world v × Stands along.state v
         read z = reads_stand win.goal 0 along.state along.world along.is along.stands
+
         same_read : (o : Option ℕ) → refused_read (i.JmpTo win.goal) along.state ≡ o → refused along.world.pages.read (operand_read W win.goal along.state.regs along.state.fs along.state.gs) ≡ o
         same_read o h =
             ap (λ p. refused p.read (operand_read W win.goal along.state.regs along.state.fs along.state.gs)) (sym along.stands.pages)
             ∙ sym (first_alone (refused along.state.pages.read (operand_read W win.goal along.state.regs along.state.fs along.state.gs))) ∙ h
+
         by : (o : Option ℕ) → refused_read (i.JmpTo win.goal) along.state ≡ o → EndsThere sc (2 + length win.insts + 1) a s (path ++ reads W win.goal) e.world ⊎ Reached s e.world
         by (Some bad) h =
             let (v, runs, st) = read (0, 0) in
@@ -286,10 +292,10 @@ module _ (m : List Segment) (r : Range) (a : ℕ) (w : TableWindow) (win : IsWin
         let q : Quiet sc 2 a s w.path (after s) = subst (λ d. Quiet sc 2 a s (if d then w.path else w.default) (after s)) (sym c) (start_quiet s fit allowed_read) in
         elim (path_along m r decoded decodes start win.index (value s) 2 a w.path w.jump s (after s) (at_first win.index) e.world win.insts path q e.is e.stands f.frozen_bytes (first_holds win.index win.bound s) parts.lifted) [
           | inl p ↦ inl (record {
-              ending = p.ending;
-              stops = stops_later sc (2 + length win.insts) (2 + length win.insts + 1) a s p.ending (omega arith) p.stops;
-              halts = halts_append path (reads W win.goal) e.world (ending_outcome p.ending) p.halts;
-            })
+            ending = p.ending;
+            stops = stops_later sc (2 + length win.insts) (2 + length win.insts + 1) a s p.ending (omega arith) p.stops;
+            halts = halts_append path (reads W win.goal) e.world (ending_outcome p.ending) p.halts;
+          })
           | inr along ↦ jumped s u e c along
         ]
 
@@ -325,18 +331,18 @@ module _ (m : List Segment) (r : Range) (a : ℕ) (w : TableWindow) (win : IsWin
         let leads : block_leads first u ≡ To 1 e.world = subst (λ d. block_leads first u ≡ To (if d then 1 else 2) e.world) (sym c) e.leads in
         elim (reached s u f allowed_read e c) [
           | inl p ↦ record {
-              onward = Finished p.ending;
-              told = stops_told sc (2 + length win.insts + 1) a s p.ending p.stops;
-              matches = subst (λ y. Matches 2 (window_successors m w) (Finished p.ending) (through 2 blocks y)) (sym leads)
-                  (subst (λ y. Matches 2 (window_successors m w) (Finished p.ending) y) (sym (block_ends last e.world (ending_outcome p.ending) p.halts)) refl);
-            }
+            onward = Finished p.ending;
+            told = stops_told sc (2 + length win.insts + 1) a s p.ending p.stops;
+            matches = subst (λ y. Matches 2 (window_successors m w) (Finished p.ending) (through 2 blocks y)) (sym leads)
+                (subst (λ y. Matches 2 (window_successors m w) (Finished p.ending) y) (sym (block_ends last e.world (ending_outcome p.ending) p.halts)) refl);
+          }
           | inr h ↦ record {
-              onward = At (target_of m w (value s)) h.state;
-              told = quiet_told sc (2 + length win.insts + 1) a s (target_of m w (value s)) h.state h.quiet;
-              matches = subst (λ y. Matches 2 (window_successors m w) (At (target_of m w (value s)) h.state) (through 2 blocks y)) (sym leads)
-                  (subst (λ y. Matches 2 (window_successors m w) (At (target_of m w (value s)) h.state) y) (sym h.leads)
-                  (suc (value s), omega arith, target_got m w w.count (value s) lt, h.stands));
-            }
+            onward = At (target_of m w (value s)) h.state;
+            told = quiet_told sc (2 + length win.insts + 1) a s (target_of m w (value s)) h.state h.quiet;
+            matches = subst (λ y. Matches 2 (window_successors m w) (At (target_of m w (value s)) h.state) (through 2 blocks y)) (sym leads)
+                (subst (λ y. Matches 2 (window_successors m w) (At (target_of m w (value s)) h.state) y) (sym h.leads)
+                (suc (value s), omega arith, target_got m w w.count (value s) lt, h.stands));
+          }
         ]
     done_by false s u f allowed_read c =
         let e = entered s u f.world f.stands allowed_read in

@@ -22,6 +22,7 @@ use Rattle.x86_inst.specs.declared.Size.{Size}
 use Rattle.x86_formed.specs.Formed.{is_formed, is_formed_mem, is_formed_operand, is_memory as is_memory_operand, is_register}
 use Rattle.x86_formed.proofs.Spelled.{spelled_is_formed}
 use Rattle.x86_model.specs.declared.effect.Effect.{Effect}
+use Rattle.x86_model.specs.declared.effect.Go.TheVariants as go
 use Rattle.x86_model.specs.Undefined.{reads_undefined}
 use Rattle.x86_model.specs.Leads.{allowed, effect_in, refused_read}
 use Rattle.x86_model.specs.Machine.{At, State}
@@ -33,7 +34,7 @@ use Rattle.jump_tables.specs.Window.{next_of}
 use Rattle.window_steps.specs.Knowledge.{Holds, Says}
 use Rattle.window_steps.proofs.Moves.{RegsFit, Sets, add_sets, lea_sets, mov_sets, movzx_sets, shl_sets}
 use Rattle.window_steps.proofs.Operands.{value_stays, with_regs}
-use Rattle.window_steps.proofs.Quiet.{does_next, scene, step_next}
+use Rattle.window_steps.proofs.Quiet.{scene, step_next}
 
 -- ---- which instructions these are
 

@@ -171,11 +171,11 @@ calm : (sc : Scene) (i : Inst) (s : State) (e : Effect) → e.store ≡ None →
     → (is_stray e.go || goes_middle sc i e.go) ≡ false → reads_undefined i s.flags ≡ false → strays sc i s e ≡ false
 calm sc i s e h t r g u =
     ap (λ o. (is_allowed i s e && (is_broken sc.image sc.slot s.mem (stored s.mem o) || takes_broken sc s e.go))
-        || (returns_elsewhere sc s e.go || (reads_undefined i s.flags || (reads_allowed i s && (is_stray e.go || goes_middle sc i e.go))))) h
+    || (returns_elsewhere sc s e.go || (reads_undefined i s.flags || (reads_allowed i s && (is_stray e.go || goes_middle sc i e.go))))) h
     ∙ ap (λ b. (is_allowed i s e && (b || takes_broken sc s e.go))
-        || (returns_elsewhere sc s e.go || (reads_undefined i s.flags || (reads_allowed i s && (is_stray e.go || goes_middle sc i e.go))))) (unbroken sc.image sc.slot s.mem)
+    || (returns_elsewhere sc s e.go || (reads_undefined i s.flags || (reads_allowed i s && (is_stray e.go || goes_middle sc i e.go))))) (unbroken sc.image sc.slot s.mem)
     ∙ ap (λ b. (is_allowed i s e && b)
-        || (returns_elsewhere sc s e.go || (reads_undefined i s.flags || (reads_allowed i s && (is_stray e.go || goes_middle sc i e.go))))) t
+    || (returns_elsewhere sc s e.go || (reads_undefined i s.flags || (reads_allowed i s && (is_stray e.go || goes_middle sc i e.go))))) t
     ∙ ap (λ b. b || (returns_elsewhere sc s e.go || (reads_undefined i s.flags || (reads_allowed i s && (is_stray e.go || goes_middle sc i e.go))))) (and-false (is_allowed i s e))
     ∙ ap (λ b. b || (reads_undefined i s.flags || (reads_allowed i s && (is_stray e.go || goes_middle sc i e.go)))) r
     ∙ ap (λ b. b || (reads_allowed i s && (is_stray e.go || goes_middle sc i e.go))) u
