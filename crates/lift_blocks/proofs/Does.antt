@@ -9,11 +9,12 @@ use Rattle.dream_words.specs.declared.machine.Name.TheVariants as name
 use Rattle.dream_words.specs.declared.machine.Width.{Width}
 use Rattle.dream_words.specs.declared.outcome.Answer.{Answer}
 use Rattle.dream_words.specs.Memory.{load, store, bytes_of}
+use Rattle.dream_words.specs.Pages.{first_bad}
 use Rattle.dream_words.specs.Registers.{word_of_bit}
 use Rattle.dream_words.specs.Words.{low_part}
-use Rattle.run_parts.specs.Steps.{having, then_do}
+use Rattle.run_parts.specs.Steps.{Next, having, then_do}
 use Rattle.run_parts.specs.World.{Names, World, with_name, answered}
-use Rattle.run_parts.specs.Effects.{setting, loading, storing, calling, trapping}
+use Rattle.run_parts.specs.Effects.{allowing, setting, loading, storing, calling, trapping}
 use Rattle.c_syntax.specs.declared.syntax.CBin.{CBin}
 use Rattle.c_syntax.specs.declared.syntax.CCmp.{CCmp}
 use Rattle.c_syntax.specs.declared.syntax.CExpr.{CExpr}
@@ -28,6 +29,7 @@ use Rattle.micro_ir.specs.Run.{stmts_do}
 use Rattle.micro_ir.specs.World.{IsWorld}
 use Rattle.lift_parts.specs.Stands.{StandsFor, FlagsStand, Stands, state_in}
 use Rattle.lift_parts.specs.Shown.{AreNames}
+use Rattle.lift_parts.proofs.Chains.{then_allowing}
 
 -- ---- words
 
@@ -57,14 +59,19 @@ pub set_does : (n : Name) (e : CExpr) (rest : List Stmt) (w : World) (x : ℕ) �
 set_does n e rest w x h = ap (λ o. then_do (having o (λ y. setting n y w)) (stmts_do rest)) h
 
 pub load_does : (n : Name) (width : Width) (e : CExpr) (rest : List Stmt) (w : World) (at : ℕ) → word_of e w.names ≡ Some at
-    → stmts_do (stmt.Load n width e ∷ rest) w ≡ stmts_do rest (record w { names = with_name w.names n (load w.mem at (bytes_of width)) })
-load_does n width e rest w at h = ap (λ o. then_do (having o (λ y. loading n width y w)) (stmts_do rest)) h
+    → stmts_do (stmt.Load n width e ∷ rest) w
+    ≡ allowing (first_bad w.pages.read at (bytes_of width)) w (stmts_do rest (record w { names = with_name w.names n (load w.mem at (bytes_of width)) }))
+load_does n width e rest w at h =
+    ap (λ o. then_do (having o (λ y. loading n width y w)) (stmts_do rest)) h
+    ∙ then_allowing (first_bad w.pages.read at (bytes_of width)) w (setting n (load w.mem at (bytes_of width)) w) (stmts_do rest)
 
 pub store_does : (width : Width) (e f : CExpr) (rest : List Stmt) (w : World) (at x : ℕ) → word_of e w.names ≡ Some at → word_of f w.names ≡ Some x
-    → stmts_do (stmt.Store width e f ∷ rest) w ≡ stmts_do rest (record w { mem = store w.mem at (bytes_of width) x })
+    → stmts_do (stmt.Store width e f ∷ rest) w
+    ≡ allowing (first_bad w.pages.write at (bytes_of width)) w (stmts_do rest (record w { mem = store w.mem at (bytes_of width) x }))
 store_does width e f rest w at x h k =
     ap (λ o. then_do (having o (λ y. having (word_of f w.names) (λ z. storing width y z w))) (stmts_do rest)) h
     ∙ ap (λ o. then_do (having o (λ z. storing width at z w)) (stmts_do rest)) k
+    ∙ then_allowing (first_bad w.pages.write at (bytes_of width)) w (Next (record w { mem = store w.mem at (bytes_of width) x })) (stmts_do rest)
 
 pub ext_does : (e : CExpr) (rest : List Stmt) (w : World) (target : ℕ) → word_of e w.names ≡ Some target
     → stmts_do (stmt.Ext e ∷ rest) w ≡ then_do (calling target w) (stmts_do rest)
@@ -103,4 +110,4 @@ flags_answered a v = record {
 
 -- a world stands for its own state
 pub stands_here : (w : World) (f : Flags) → FlagsStand f w.names → Stands (state_in w f) w
-stands_here w f h = record { regs = refl; flags = h; fs = refl; gs = refl; mem = refl; left = refl; calls = refl }
+stands_here w f h = record { regs = refl; flags = h; fs = refl; gs = refl; mem = refl; pages = refl; left = refl; calls = refl }

@@ -1,5 +1,5 @@
 -- What statements lead to that set flags to the six words of an operation, and write its result after them.
-use Rattle.std.proofs.Common.{◌≡◌, ℕ, ◌^◌, ◌<◌, List, [], ◌∷◌, ◌++◌, Option, Some, refl, sym, ap, ◌∙◌, subst, lit<}
+use Rattle.std.proofs.Common.{◌≡◌, ℕ, ◌^◌, ◌<◌, List, [], ◌∷◌, ◌++◌, Option, Some, None, refl, sym, ap, ◌∙◌, subst, lit<}
 use Rattle.std.specs.Prelude.{IsSome}
 use Rattle.dream_words.specs.declared.machine.Bit.{Bit}
 use Rattle.dream_words.specs.declared.machine.Bit.TheVariants.{Zero, One, Undefined}
@@ -11,8 +11,9 @@ use Rattle.run_parts.specs.World.{Names, World, regs_in, with_name}
 use Rattle.x86_inst.specs.declared.Size.{Size}
 use Rattle.x86_inst.specs.declared.Operand.{Operand}
 use Rattle.x86_model.specs.declared.effect.Step.{Step}
+use Rattle.x86_model.specs.declared.effect.Stored.{Stored}
 use Rattle.x86_model.specs.Effects.{done, put, known}
-use Rattle.x86_model.specs.Leads.{stored}
+use Rattle.x86_model.specs.Leads.{after, stored}
 use Rattle.x86_model.specs.Operands.{bits_of}
 use Rattle.c_syntax.specs.declared.syntax.CExpr.{CExpr}
 use Rattle.c_syntax.specs.Value.{word_of}
@@ -20,15 +21,15 @@ use Rattle.c_words.proofs.Layers.{word_layer}
 use Rattle.micro_ir.specs.declared.flow.Stmt.{Stmt}
 use Rattle.micro_ir.specs.declared.flow.Stmt.TheVariants as stmt
 use Rattle.lift_parts.specs.Parts.{temp, writes}
-use Rattle.lift_parts.specs.Shown.{AreNames, Runs, Shows, ShowsRead}
+use Rattle.lift_parts.specs.Shown.{AreNames, Runs, RunsTo, Shows, ShowsRead}
 use Rattle.lift_parts.specs.Stands.{FlagsStand, Stands, StandsFor, state_in}
-use Rattle.lift_parts.proofs.Chains.{none_run, runs_append, set_runs}
+use Rattle.lift_parts.proofs.Chains.{none_run, runs_allowed, runs_append, runs_to_append, set_runs, set_runs_to}
 use Rattle.lift_parts.proofs.Kept.{AfterRead, flags_stay}
-use Rattle.lift_parts.proofs.Writes.{Written, names_set, shows_flag, shows_temp, writes_run}
+use Rattle.lift_parts.proofs.Writes.{Written, names_set, shows_flag, shows_temp, write_after, writes_run}
 use Rattle.lift_alu.specs.declared.alu.AluLift.{AluLift}
 use Rattle.lift_alu.specs.Lifts.{Lifts, Shows as IsShownBy}
 use Rattle.lift_blocks.specs.Flags.{computes, sets_but_carry, sets_flags}
-use Rattle.lift_blocks.specs.Effects.{LeadsOn, after}
+use Rattle.lift_blocks.specs.Effects.{LeadsOn}
 use Rattle.lift_blocks.proofs.Common.{leads_next, put_flags, put_go}
 
 -- ---- what is known while flags are set
@@ -41,13 +42,14 @@ pub record Sees (size : Size) (d s : Operand) (a : Step) (k : ℕ) (v : Names) :
   pub second : ShowsRead size s a v
   pub carry : v (name.Flag 0) ≡ k
 
--- registers, bases, t2, memory, the answers and the calls are as before
+-- registers, bases, t2, memory, the pages, the answers and the calls are as before
 pub record Stays (w u : World) : Type 0 where
   pub regs : regs_in u.names ≡ regs_in w.names
   pub fs : u.names name.Fs ≡ w.names name.Fs
   pub gs : u.names name.Gs ≡ w.names name.Gs
   pub result : u.names (name.T 2) ≡ w.names (name.T 2)
   pub mem : u.mem ≡ w.mem
+  pub pages : u.pages ≡ w.pages
   pub left : u.left ≡ w.left
   pub calls : u.calls ≡ w.calls
 
@@ -148,7 +150,7 @@ module _ (size : Size) (d s : Operand) (a : Step) (k : ℕ) where
           none_run w1,
           record {
             sees = sees1;
-            stays = record { regs = refl; fs = refl; gs = refl; result = refl; mem = refl; left = refl; calls = refl };
+            stays = record { regs = refl; fs = refl; gs = refl; result = refl; mem = refl; pages = refl; left = refl; calls = refl };
             parity = is_parity;
             zero = is_zero;
             sign = is_sign;
@@ -172,6 +174,7 @@ module _ (size : Size) (d s : Operand) (a : Step) (k : ℕ) where
               gs = four.stays.gs;
               result = four.stays.result;
               mem = four.stays.mem;
+              pages = four.stays.pages;
               left = four.stays.left;
               calls = four.stays.calls;
             };
@@ -196,18 +199,19 @@ module _ (size : Size) (d s : Operand) (a : Step) (k : ℕ) where
 
   module _ (f : Flags) (flags : List Stmt) (sets : (w : World) → See w.names → Leading (AllSet a f w) flags w) where
     -- after the reads the flags are set, and the run goes on
-    pub flags_on : (before : List Stmt) (w u : World) → Runs before w u → AfterRead a w u → See u.names
-        → LeadsOn (done a f).go (done a f) (state_in w a.flags) (before ++ flags) w
-    flags_on before w u r after_read h =
+    pub flags_on : (bad : Option ℕ) (before : List Stmt) (w u : World) → RunsTo bad before w u → AfterRead a w u → See u.names
+        → LeadsOn bad (done a f).go (done a f) (state_in w a.flags) (before ++ flags) w
+    flags_on bad before w u r after_read h =
         let (t, runs, all) = sets u h in (
           t,
-          runs_append before flags r runs,
+          runs_to_append bad None before flags after_read.mem after_read.calls r (runs_allowed runs),
           record {
             regs = sym all.shows.regs;
             flags = all.flags;
             fs = sym (all.stays.fs ∙ after_read.fs);
             gs = sym (all.stays.gs ∙ after_read.gs);
             mem = sym (all.stays.mem ∙ after_read.mem);
+            pages = sym (all.stays.pages ∙ after_read.pages);
             left = sym (all.stays.left ∙ after_read.left);
             calls = sym (all.stays.calls ∙ after_read.calls);
           },
@@ -222,21 +226,24 @@ module _ (size : Size) (d s : Operand) (a : Step) (k : ℕ) where
       fs = sym (written.fs ∙ all.stays.fs ∙ read.fs);
       gs = sym (written.gs ∙ all.stays.gs ∙ read.gs);
       mem = sym (written.mem ∙ ap (λ m. stored m (put size d value a (done a f)).store) (all.stays.mem ∙ read.mem));
+      pages = sym (written.pages ∙ all.stays.pages ∙ read.pages);
       left = sym (written.left ∙ all.stays.left ∙ read.left);
       calls = sym (written.calls ∙ all.stays.calls ∙ read.calls);
     }
 
     -- after the reads the result is kept, the flags are set, and the result is written
-    pub computes_on : (result : CExpr) (value : ℕ) → value < 2 ^ 32 → (before : List Stmt) (w u : World) → Runs before w u → AfterRead a w u → See u.names
+    pub computes_on : (bad : Option ℕ) (result : CExpr) (value : ℕ) → value < 2 ^ 32 → (before : List Stmt) (w u : World) → RunsTo bad before w u → AfterRead a w u → See u.names
         → word_of result u.names ≡ Some value
-        → LeadsOn (put size d value a (done a f)).go (put size d value a (done a f)) (state_in w a.flags) (before ++ computes size d flags result) w
-    computes_on result value fits before w u r read h e =
+        → LeadsOn bad (put size d value a (done a f)).go (put size d value a (done a f)) (state_in w a.flags) (before ++ computes size d flags result) w
+    computes_on bad result value fits before w u r read h e =
         let v : World = set_word (name.T 2) value u in
         let (t, runs, all) = sets v (sees_result u.names value fits h) in
         let (last, ends, written) = writes_run size d (temp 2) (t.names (name.T 2)) value a (done a f) t all.names all.shows all.shows.regs refl
         (temp_is t.names 2) (all.names.words (name.T 2)) (ap (low_part (bits_of size)) all.stays.result) in
-        leads_next (put size d value a (done a f)) (state_in w a.flags) (before ++ computes size d flags result) w last (put_go size d value a (done a f))
-        (runs_append before (computes size d flags result) r (set_runs (name.T 2) result value e (runs_append flags (writes size d (temp 2)) runs ends)))
+        let o : Option Stored = (put size d value a (done a f)).store in
+        leads_next bad (put size d value a (done a f)) (state_in w a.flags) (before ++ computes size d flags result) w last (put_go size d value a (done a f))
+        (write_after bad o before (computes size d flags result) read.mem read.pages read.calls r
+        (set_runs_to _ (name.T 2) result value e (write_after None o flags (writes size d (temp 2)) all.stays.mem all.stays.pages all.stays.calls (runs_allowed runs) ends)))
         (result_stands value w v t last (record {
           shows = shows_temp a u.names 2 value read.shows;
           names = names_set u.names (name.T 2) value read.names fits;
@@ -245,6 +252,7 @@ module _ (size : Size) (d s : Operand) (a : Step) (k : ℕ) where
           fs = read.fs;
           gs = read.gs;
           mem = read.mem;
+          pages = read.pages;
           left = read.left;
           calls = read.calls;
         }) all written)

@@ -24,10 +24,10 @@ pub record HasEffect (x : Inst) (at next : ℕ) (b : Block) : Type 0 where
 
 -- What statements lead to where the run goes on after the instruction, of which a read may be refused at an address: a world
 -- that stands for the state after the effect, or the fault of the first access that is refused. A step that strays frees
--- them once its reads are made.
+-- them once its accesses are made.
 abbrev pub LeadsOn : Option ℕ → Go → Effect → State → List Stmt → World → Type 0
 LeadsOn bad go.Next e m stmts w = (u : World) × RunsTo (first_of bad (refused_store e m)) stmts w u × Stands (after e m) u
-LeadsOn bad go.Stray e m stmts w = Faults bad stmts w
+LeadsOn bad go.Stray e m stmts w = Faults (first_of bad (refused_store e m)) stmts w
 LeadsOn bad go.Again e m stmts w = ⊥
 LeadsOn bad (go.To a) e m stmts w = ⊥
 LeadsOn bad (go.CallTo a) e m stmts w = ⊥
