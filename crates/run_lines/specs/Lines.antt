@@ -24,7 +24,7 @@ line_of (Returned r mem calls) start =
     ++ codes " ebx=" ++ last_digits 8 r.ebx ++ codes " esp=" ++ last_digits 8 r.esp ++ codes " ebp=" ++ last_digits 8 r.ebp
     ++ codes " esi=" ++ last_digits 8 r.esi ++ codes " edi=" ++ last_digits 8 r.edi
     ++ codes " calls=" ++ decimal (length calls) ++ codes " changed=" ++ decimal (differences start mem) ++ codes "\n"
-line_of (Faulted vector mem calls) start =
+line_of (Faulted vector at mem calls) start =
     codes "faulted vector=" ++ decimal vector ++ codes " calls=" ++ decimal (length calls)
     ++ codes " changed=" ++ decimal (differences start mem) ++ codes "\n"
 line_of (Asking calls) start = codes "asking target=" ++ last_digits 8 (last_target calls) ++ codes " calls=" ++ decimal (length calls) ++ codes "\n"

@@ -8,6 +8,7 @@ use Rattle.dream_words.specs.declared.machine.Bit.TheVariants.{Zero}
 use Rattle.dream_words.specs.declared.outcome.Start.{Start}
 use Rattle.dream_words.specs.Registers.{with_reg}
 use Rattle.dream_words.specs.Memory.{Mem, byte_at, store}
+use Rattle.dream_words.specs.Pages.{all_pages}
 use Rattle.run_lines.specs.StartWords.{Given}
 
 -- ---- registers and flags
@@ -44,9 +45,9 @@ with_arguments m mem a (v ∷ vs) = with_arguments m (with_argument m mem ((a + 
 
 -- ---- starts
 
--- all flags and both bases are 0
+-- all flags and both bases are 0, and every page may be read and written
 abbrev pub start_with : Regs → Mem → Start
-start_with regs mem = record { regs = regs; flags = clear_flags; fs = 0; gs = 0; mem = mem }
+start_with regs mem = record { regs = regs; flags = clear_flags; fs = 0; gs = 0; mem = mem; pages = all_pages }
 
 -- The start: the named registers are set in their order, and then the arguments are stored above ESP.
 abbrev pub start_of : List Segment → Given → Mem → Start

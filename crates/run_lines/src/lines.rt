@@ -105,9 +105,12 @@ pub fn line(alloc: Global, outcome: &Outcome, start: &Memory) -> Result<Vec<u8>,
         Outcome::Returned { regs, mem, calls } => {
             returned(alloc, *regs, calls.len() as u64, start.differs(mem))
         }
-        Outcome::Faulted { vector, mem, calls } => {
-            faulted(alloc, *vector, calls.len() as u64, start.differs(mem))
-        }
+        Outcome::Faulted {
+            vector,
+            mem,
+            calls,
+            ..
+        } => faulted(alloc, *vector, calls.len() as u64, start.differs(mem)),
         Outcome::Asking { calls } => asking(alloc, calls.as_slice()),
         Outcome::Strayed => Vec::from_slice(alloc, b"strayed\n"),
         Outcome::Undecoded => Vec::from_slice(alloc, b"undecoded\n"),

@@ -5,7 +5,7 @@ ghost use Rattle.run_lines.specs.StartWords.{registers_in, arguments_in, given_b
 ghost use Rattle.run_lines.specs.Starts.{first_regs, with_registers, with_free, with_argument, with_arguments, IsStartOf};
 
 use crate::words::{StartWord, start_word};
-use dream_words::{Bit, Flags, Memory, Regs, Start, Width};
+use dream_words::{Bit, Flags, Memory, Pages, Regs, Start, Width};
 use elf_image::Image;
 use machine::start_memory;
 use std::alloc::{AllocError, Global};
@@ -73,11 +73,12 @@ fn put_arguments(
 
 /// The start that words give. ESP is 0xbfff0000 and the other registers are 0, but for those that words name; then the
 /// j-th argument, counted from 1, stands 4j bytes above ESP, where no byte is frozen. The rest of the memory is the
-/// image's; flags and bases are 0. A word that says nothing is passed over.
+/// image's; flags and bases are 0, and every page may be read and written. A word that says nothing is passed over.
 pub fn start(alloc: Global, image: &Image, words: &[String]) -> Result<Start, AllocError>
     ensures { IfOk result (λ s. IsStartOf image.now (given_by (map string_bytes words.now)) s) }
 {
     let regs = registers(words);
+    let pages = Pages::all(alloc)?;
     let mut mem = start_memory(alloc, image)?;
     put_arguments(image, &mut mem, regs.esp, words)?;
     let flags = Flags {
@@ -93,5 +94,6 @@ pub fn start(alloc: Global, image: &Image, words: &[String]) -> Result<Start, Al
         fs: 0,
         gs: 0,
         mem,
+        pages,
     })
 }

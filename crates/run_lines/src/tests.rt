@@ -185,6 +185,7 @@ fn tells_outcomes(rt: HostRuntime) -> Result<(), Fail> {
     };
     let faulted = Outcome::Faulted {
         vector: 14,
+        at: 0x0060_0000,
         mem: Memory::new(alloc),
         calls: calls(alloc, &[1; 12])?,
     };

@@ -13,6 +13,7 @@ returns c =
       before = before;
       image = record { backed = c.in_ok-mem.ensures.backed; frozen = c.in_ok-mem.ensures.frozen };
       is =
-          ap (start_with c.registers-regs.result) c.in_ok-put_arguments.ensures
+          ap (λ mem. record (start_with c.registers-regs.result mem) { pages = c.in_ok-pages.pages }) c.in_ok-put_arguments.ensures
+          ∙ ap (λ pages. record (start_with c.registers-regs.result (with_arguments m before c.registers-regs.result.esp arguments)) { pages = pages }) c.in_ok-pages.ensures
           ∙ ap (λ regs. start_with regs (with_arguments m before regs.esp arguments)) c.registers-regs.ensures;
     }
