@@ -101,7 +101,7 @@ double_given left a x g c l m =
 
 -- SHLD and SHRD
 pub double_goes : (left : Bool) (d : Operand) (g : ℕ) (c : Count) (next : ℕ) → GoesOn (i.DShift left d g c) next (double_stmts left d g c)
-double_goes left d g c next = by_step (i.DShift left d g c) next (double_stmts left d g c) (λ a w b.
+double_goes left d g c next = by_step (i.DShift left d g c) next (double_stmts left d g c) (λ a. refl) (λ a w b.
     all_counted (i.DShift left d g c) a w b false W d c (double_word left g c) (double_carry_word left c) (over_word Shl W)
     (double_value left (value_of W d a) (reg_of a.regs g) (count_of c a)) (double_flags left (value_of W d a) (reg_of a.regs g) (count_of c a)) b.first
     (double_given left a (value_of W d a) g c (value_fits a w.names b.names b.shows W d) (subst (λ r. reg_of r g < 2 ^ 32) b.shows.regs (reg_fits w.names b.names g))) (is_none c) refl)

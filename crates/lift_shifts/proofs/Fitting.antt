@@ -25,7 +25,7 @@ use Rattle.micro_ir.specs.declared.flow.Stmt.{Stmt}
 use Rattle.micro_ir.specs.declared.flow.Stmt.TheVariants as stmt
 use Rattle.micro_ir.specs.Rule.{is_flow_name, is_flow_target, is_flow_word}
 use Rattle.lift_parts.specs.Lifted.{once}
-use Rattle.lift_parts.specs.Parts.{flag, low_word, reg, temp, value_word, writes}
+use Rattle.lift_parts.specs.Parts.{flag, low_word, reads, reg, temp, value_word, writes}
 use Rattle.lift_parts.proofs.Fit.{AreFit, IsFit, bin_fit, both_hold, deeper, fit_append, fit_word, masked_fit, more_fit, name_fit, none_fit, num_fit, reads_fit, reg_fit, shl_fit, shr_fit, temp_fit, value_fit}
 use Rattle.lift_parts.proofs.FitShapes.{IsCount, cmp_fit, cond_deeper, fn1_fit, fn2_fit, masked_count, not_fit, num_count, pick_fit, shl_count_fit, shr_count_fit, word_if_fit}
 use Rattle.lift_parts.proofs.FitWrites.{writes_fit}
@@ -202,16 +202,16 @@ computes_fit size d flags e t f g =
     (sets_fit 7 (name.T 2) e (flags ++ writes size d (temp 2)) (0 + k) (lit≤ tt) refl g
     (fit_append flags (writes size d (temp 2)) 0 k f (writes_fit 1 size d (temp 2) (lit≤ tt) (lit≤ tt) t (result_fit 1 (lit≤ tt))))))
 
-unless_none : (t : Bool) (k : Bool) (ss : List Stmt) → AreFit (once k) ss → AreFit (once (if t then false else k)) (if t then [] else ss)
-unless_none true k ss h = none_fit
-unless_none false k ss h = h
+unless_none : (t : Bool) (k : Bool) (rs ss : List Stmt) → AreFit 0 rs → AreFit (once k) ss → AreFit (once (if t then false else k)) (if t then rs else ss)
+unless_none true k rs ss h g = h
+unless_none false k rs ss h g = g
 
 pub shift_stmts_fit : (f : ShiftOp) (size : Size) (d : Operand) (c : Count) → IsTrue (is_formed_operand d) → AreFit (once (if is_none c then false else is_memory d)) (shift_stmts f size d c)
 shift_stmts_fit f size d c t =
-    unless_none (is_none c) (is_memory d) _
+    unless_none (is_none c) (is_memory d) (reads size d) _ (reads_fit size d t)
     (computes_fit size d _ (shift_word f size c) t (shifted_fit (rotates f) size c (carry_word f size c) (over_word f size) (carry_fit f size c) (over_fit f size)) (shift_fit f size c))
 
 pub double_stmts_fit : (left : Bool) (d : Operand) (g : ℕ) (c : Count) → IsTrue (is_formed_operand d) → g < 8 → AreFit (once (if is_none c then false else is_memory d)) (double_stmts left d g c)
 double_stmts_fit left d g c t h =
-    unless_none (is_none c) (is_memory d) _
+    unless_none (is_none c) (is_memory d) (reads W d) _ (reads_fit W d t)
     (computes_fit W d _ (double_word left g c) t (shifted_fit false W c (double_carry_word left c) (over_word Shl W) (double_carry_fit left c) (over_fit Shl W)) (double_fit left g c h))

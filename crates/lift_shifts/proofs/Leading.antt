@@ -1,5 +1,5 @@
 -- The statements of shifts lead where their instructions do.
-use Rattle.std.proofs.Common.{◌≡◌, ℕ, ◌^◌, ◌<◌, nat_eq, Bool, true, false, List, [], ◌++◌, Some, refl, sym, ap, ◌∙◌, subst, arith}
+use Rattle.std.proofs.Common.{◌≡◌, ℕ, ◌^◌, ◌<◌, nat_eq, Bool, true, false, List, ◌++◌, Option, Some, refl, sym, ap, ◌∙◌, subst, arith}
 use Rattle.std.specs.Prelude.{if◌then◌else◌}
 use Rattle.std.proofs.lemmas.Bool.Decides.{nat_tests}
 use Rattle.dream_words.specs.declared.machine.Bit.TheVariants.{Undefined}
@@ -17,7 +17,7 @@ use Rattle.x86_inst.specs.declared.Size.TheVariants.{B, H, W}
 use Rattle.x86_model.specs.declared.effect.Effect.{Effect}
 use Rattle.x86_model.specs.declared.effect.Step.{Step}
 use Rattle.x86_model.specs.Effects.{done, put}
-use Rattle.x86_model.specs.Leads.{read_by}
+use Rattle.x86_model.specs.Leads.{read_by, refused}
 use Rattle.x86_model.specs.Operands.{bits_of, count_of, value_of}
 use Rattle.x86_model.specs.Reads.{operand_read}
 use Rattle.x86_model.specs.Successors.{is_none}
@@ -26,7 +26,9 @@ use Rattle.c_syntax.specs.declared.syntax.CExpr.{CExpr}
 use Rattle.c_syntax.specs.Value.{word_of}
 use Rattle.micro_ir.specs.declared.flow.Stmt.{Stmt}
 use Rattle.lift_parts.specs.Stands.{state_in}
-use Rattle.lift_parts.proofs.Chains.{none_run}
+use Rattle.lift_parts.specs.Parts.{reads}
+use Rattle.lift_parts.proofs.Chains.{first_of_none, runs_by}
+use Rattle.lift_parts.proofs.Kept.{flags_stay, reads_run}
 use Rattle.lift_parts.proofs.Values.{value_fits}
 use Rattle.lift_blocks.specs.Effects.{GoesOn, LeadsOn}
 use Rattle.lift_blocks.specs.Flags.{computes}
@@ -46,17 +48,22 @@ is_zero k e = grind (arith, nat_tests)
 pub not_zero : (k : ℕ) → nat_eq k 0 ≡ false → 0 < k
 not_zero k e = grind (arith, nat_tests)
 
--- what a step does that has nothing to do
-nothing_leads : (a : Step) (w : World) (x : Inst) → Begins x a w → LeadsOn (done a a.flags).go (done a a.flags) (state_in w a.flags) [] w
-nothing_leads a w x b = leads_next (done a a.flags) (state_in w a.flags) [] w w refl (none_run w) (record {
-  regs = sym b.shows.regs;
-  flags = b.flags;
-  fs = refl;
-  gs = refl;
-  mem = refl;
-  left = refl;
-  calls = refl;
-})
+-- what a step does that reads its operand and has nothing more to do
+read_leads : (a : Step) (w : World) (x : Inst) (size : Size) (d : Operand) → Begins x a w → a.first ≡ read_by (operand_read size d a.regs a.fs a.gs) w.mem
+    → LeadsOn (refused w.pages.read (operand_read size d a.regs a.fs a.gs)) (done a a.flags).go (done a a.flags) (state_in w a.flags) (reads size d) w
+read_leads a w x size d b first =
+    let (u, runs, read, shown) = reads_run size d a w b.names b.bytes b.shows first in
+    let bad : Option ℕ = refused w.pages.read (operand_read size d a.regs a.fs a.gs) in
+    leads_next bad (done a a.flags) (state_in w a.flags) (reads size d) w u refl (runs_by bad _ (sym (first_of_none bad)) runs) (record {
+      regs = sym read.shows.regs;
+      flags = flags_stay a.flags w.names u.names read.flags b.flags;
+      fs = sym read.fs;
+      gs = sym read.gs;
+      mem = sym read.mem;
+      pages = sym read.pages;
+      left = sym read.left;
+      calls = sym read.calls;
+    })
 
 -- a value is put, with the flags after a count that is 0 or isn't
 abbrev pub counted : Bool → Count → Size → Operand → ℕ → ℕ → Flags → Step → Effect
@@ -97,37 +104,40 @@ flags_some false f g h = refl
 
 module _ (x : Inst) (a : Step) (w : World) (b : Begins x a w) (rotates : Bool) (size : Size) (d : Operand) (c : Count) (result carry over : CExpr) (v : ℕ) (f : Flags)
     (first : a.first ≡ read_by (operand_read size d a.regs a.fs a.gs) w.mem) (give : GiveShift a (value_of size d a) v rotates size c result carry over f) where
+  abbrev pub bad : Option ℕ
+  bad = refused w.pages.read (operand_read size d a.regs a.fs a.gs)
+
   abbrev pub flag_stmts : List Stmt
   flag_stmts = sets_shifted rotates size c carry over
 
   -- the statements of a count that isn't a number that is 0
   some_leads : is_none c ≡ false → (z : Bool) → nat_eq (count_of c a) 0 ≡ z → (value : ℕ) → v ≡ value
-      → let e : Effect = put size d value a (done a (flags_after rotates z a.flags f)) in LeadsOn e.go e (state_in w a.flags) (takes size d ++ computes size d flag_stmts result) w
+      → let e : Effect = put size d value a (done a (flags_after rotates z a.flags f)) in LeadsOn bad e.go e (state_in w a.flags) (takes size d ++ computes size d flag_stmts result) w
   some_leads some z counted value same =
       computes_to size d result v value a (flags_after rotates z a.flags f) flag_stmts w b.names b.bytes b.shows b.flags first give.result (fits_word size v give.fits) same
       (λ u k. all_set a (value_of size d a) v size c z some counted rotates carry over f (λ e. give.flags (counted ∙ e)) give.only_one u k)
 
   -- by CL, where it is 0
   zero_leads : (k : Count) → k ≡ n.Cl → is_none c ≡ false → nat_eq (count_of c a) 0 ≡ true
-      → let e : Effect = shift_none k size d (value_of size d a) a in LeadsOn e.go e (state_in w a.flags) (takes size d ++ computes size d flag_stmts result) w
+      → let e : Effect = shift_none k size d (value_of size d a) a in LeadsOn bad e.go e (state_in w a.flags) (takes size d ++ computes size d flag_stmts result) w
   zero_leads n.Cl q some z =
-      subst (λ g. let e : Effect = put size d (value_of size d a) a (done a g) in LeadsOn e.go e (state_in w a.flags) (takes size d ++ computes size d flag_stmts result) w)
+      subst (λ g. let e : Effect = put size d (value_of size d a) a (done a g) in LeadsOn bad e.go e (state_in w a.flags) (takes size d ++ computes size d flag_stmts result) w)
       (flags_none rotates a.flags f) (some_leads some true z (value_of size d a) (give.none z))
   zero_leads n.One q some z = absurd cc
   zero_leads (n.Imm k) q some z = absurd cc
 
   some_counted : is_none c ≡ false → (z : Bool) → nat_eq (count_of c a) 0 ≡ z
-      → let e : Effect = counted z c size d (value_of size d a) v f a in LeadsOn e.go e (state_in w a.flags) (takes size d ++ computes size d flag_stmts result) w
+      → let e : Effect = counted z c size d (value_of size d a) v f a in LeadsOn bad e.go e (state_in w a.flags) (takes size d ++ computes size d flag_stmts result) w
   some_counted some true z = zero_leads c (by_cl c a some z) some z
   some_counted some false z =
-      subst (λ g. let e : Effect = put size d v a (done a g) in LeadsOn e.go e (state_in w a.flags) (takes size d ++ computes size d flag_stmts result) w)
+      subst (λ g. let e : Effect = put size d v a (done a g) in LeadsOn bad e.go e (state_in w a.flags) (takes size d ++ computes size d flag_stmts result) w)
       (flags_some rotates a.flags f give.kept) (some_leads some false z v refl)
 
   pub all_counted : (m : Bool) → is_none c ≡ m
       → let e : Effect = counted (nat_eq (count_of c a) 0) c size d (value_of size d a) v f a in
-      LeadsOn e.go e (state_in w a.flags) (if m then [] else takes size d ++ computes size d flag_stmts result) w
+      LeadsOn bad e.go e (state_in w a.flags) (if m then reads size d else takes size d ++ computes size d flag_stmts result) w
   all_counted true m =
-      subst (λ e. LeadsOn e.go e (state_in w a.flags) [] w) (sym (none_counted c size d (value_of size d a) v f a m)) (nothing_leads a w x b)
+      subst (λ e. LeadsOn bad e.go e (state_in w a.flags) (reads size d) w) (sym (none_counted c size d (value_of size d a) v f a m)) (read_leads a w x size d b first)
   all_counted false m = some_counted m (nat_eq (count_of c a) 0) refl
 
 -- ---- shifts and rotations
@@ -154,7 +164,7 @@ shift_given f size a x c h = record {
 
 -- SHL, SHR, SAR, ROL and ROR
 pub shift_goes : (f : ShiftOp) (size : Size) (d : Operand) (c : Count) (next : ℕ) → GoesOn (i.Shift f size d c) next (shift_stmts f size d c)
-shift_goes f size d c next = by_step (i.Shift f size d c) next (shift_stmts f size d c) (λ a w b.
+shift_goes f size d c next = by_step (i.Shift f size d c) next (shift_stmts f size d c) (λ a. refl) (λ a w b.
     all_counted (i.Shift f size d c) a w b (rotates f) size d c (shift_word f size c) (carry_word f size c) (over_word f size)
     (shift_value f (bits_of size) (value_of size d a) (count_of c a)) (shift_flags f (bits_of size) (value_of size d a) (count_of c a) a.flags) b.first
     (shift_given f size a (value_of size d a) c (value_fits a w.names b.names b.shows size d)) (is_none c) refl)

@@ -1,5 +1,5 @@
 -- What is known while a shift runs: t0 has the operand, t2 the result, and flags are set one after another.
-use Rattle.std.proofs.Common.{◌≡◌, ℕ, ◌^◌, ◌<◌, List, [], ◌∷◌, ◌++◌, Some, refl, sym, ap, ◌∙◌, subst}
+use Rattle.std.proofs.Common.{◌≡◌, ℕ, ◌^◌, ◌<◌, List, [], ◌∷◌, ◌++◌, Option, Some, None, refl, sym, ap, ◌∙◌, subst}
 use Rattle.dream_words.specs.declared.machine.Bit.{Bit}
 use Rattle.dream_words.specs.declared.machine.Flags.{Flags}
 use Rattle.dream_words.specs.declared.machine.Name.TheVariants as name
@@ -9,8 +9,9 @@ use Rattle.x86_inst.specs.declared.Size.{Size}
 use Rattle.x86_inst.specs.declared.Operand.{Operand}
 use Rattle.x86_inst.specs.declared.Operand.TheVariants as o
 use Rattle.x86_model.specs.declared.effect.Step.{Step}
+use Rattle.x86_model.specs.declared.effect.Stored.{Stored}
 use Rattle.x86_model.specs.Effects.{done, put}
-use Rattle.x86_model.specs.Leads.{read_by, stored}
+use Rattle.x86_model.specs.Leads.{after, read_by, refused, stored}
 use Rattle.x86_model.specs.Operands.{bits_of, value_of}
 use Rattle.x86_model.specs.Reads.{operand_read}
 use Rattle.dream_words.specs.Ranges.{AreBytes}
@@ -20,13 +21,13 @@ use Rattle.c_syntax.specs.Value.{word_of}
 use Rattle.micro_ir.specs.declared.flow.Stmt.{Stmt}
 use Rattle.micro_ir.specs.declared.flow.Stmt.TheVariants as stmt
 use Rattle.lift_parts.specs.Parts.{temp, value_word, writes}
-use Rattle.lift_parts.specs.Shown.{AreNames, Runs, Shows, ShowsRead}
+use Rattle.lift_parts.specs.Shown.{AreNames, Runs, RunsTo, Shows, ShowsRead}
 use Rattle.lift_parts.specs.Stands.{FlagsStand, Stands, StandsFor, state_in}
-use Rattle.lift_parts.proofs.Chains.{none_run, runs_append, set_runs}
+use Rattle.lift_parts.proofs.Chains.{none_run, runs_allowed, set_runs, set_runs_to}
 use Rattle.lift_parts.proofs.Kept.{flags_stay, reads_run}
 use Rattle.lift_parts.proofs.Values.{value_is, value_is_word}
-use Rattle.lift_parts.proofs.Writes.{Written, names_set, shows_flag, shows_temp, writes_run}
-use Rattle.lift_blocks.specs.Effects.{LeadsOn, after}
+use Rattle.lift_parts.proofs.Writes.{Written, names_set, shows_flag, shows_temp, write_after, writes_run}
+use Rattle.lift_blocks.specs.Effects.{LeadsOn}
 use Rattle.lift_blocks.specs.Flags.{computes}
 use Rattle.lift_blocks.proofs.Common.{leads_next, put_flags, put_go}
 use Rattle.lift_blocks.proofs.MoveWords.{name_value}
@@ -48,9 +49,10 @@ pub record Known (a : Step) (x r : ℕ) (f : Flags) (v : Names) : Type 0 where
   pub seen : Seen a x r v
   pub flags : FlagsStand f v
 
--- memory, answers and calls are as before
+-- memory, pages, answers and calls are as before
 pub record Same (w u : World) : Type 0 where
   pub mem : u.mem ≡ w.mem
+  pub pages : u.pages ≡ w.pages
   pub left : u.left ≡ w.left
   pub calls : u.calls ≡ w.calls
 
@@ -77,7 +79,7 @@ sets_one : (a : Step) (x r : ℕ) (f g : Flags) (n : ℕ) (b : Bit) (e : CExpr) 
 sets_one a x r f g n b e rest w gives seen stands on =
     let (y, is, small, for_bit) = gives in
     let (u, runs, known, same) = on (set_word (name.Flag n) y w) (record { seen = seen_flag a x r w.names n y small seen; flags = stands y for_bit }) in
-    (u, set_runs (name.Flag n) e y is runs, known, record { mem = same.mem; left = same.left; calls = same.calls })
+    (u, set_runs (name.Flag n) e y is runs, known, record { mem = same.mem; pages = same.pages; left = same.left; calls = same.calls })
 
 pub sets_carry : (a : Step) (x r : ℕ) (f g : Flags) (b : Bit) (e : CExpr) (rest : List Stmt) (w : World) → Gives b e w.names → Known a x r f w.names
     → ((u : World) → Known a x r (record f { c = b }) u.names → Sets a x r g rest u) → Sets a x r g (stmt.Set (name.Flag 0) e ∷ rest) w
@@ -110,7 +112,7 @@ leaves_over a x r f b v h k = record { seen = k.seen; flags = record { c = k.fla
 
 -- nothing more is set
 pub sets_nothing : (a : Step) (x r : ℕ) (f : Flags) (w : World) → Known a x r f w.names → Sets a x r f [] w
-sets_nothing a x r f w k = (w, none_run w, k, record { mem = refl; left = refl; calls = refl })
+sets_nothing a x r f w k = (w, none_run w, k, record { mem = refl; pages = refl; left = refl; calls = refl })
 
 -- ---- the operand is taken
 
@@ -129,15 +131,17 @@ sets_operand size d a w names shows flags r =
       record {
         taken = record { names = names_set w.names (name.T 0) x names (value_is_word a w.names names shows size d); shows = shows_temp a w.names 0 x shows; operand = refl };
         flags = record { c = flags.c; p = flags.p; z = flags.z; s = flags.s; o = flags.o };
-        same = record { mem = refl; left = refl; calls = refl };
+        same = record { mem = refl; pages = refl; left = refl; calls = refl };
       },
     )
 
 takes_run : (size : Size) (d : Operand) (a : Step) (w : World) → AreNames w.names → AreBytes w.mem → Shows a w.names → FlagsStand a.flags w.names
     → a.first ≡ read_by (operand_read size d a.regs a.fs a.gs) w.mem
-    → (u : World) × Runs (takes size d) w u × TakenFrom a (value_of size d a) w u
-takes_run size (o.Reg n) a w names bytes shows flags first = sets_operand size (o.Reg n) a w names shows flags (record { read = λ e. absurd cc })
-takes_run size (o.Imm k) a w names bytes shows flags first = sets_operand size (o.Imm k) a w names shows flags (record { read = λ e. absurd cc })
+    → (u : World) × RunsTo (refused w.pages.read (operand_read size d a.regs a.fs a.gs)) (takes size d) w u × TakenFrom a (value_of size d a) w u
+takes_run size (o.Reg n) a w names bytes shows flags first =
+    let (u, runs, from) = sets_operand size (o.Reg n) a w names shows flags (record { read = λ e. absurd cc }) in (u, runs_allowed runs, from)
+takes_run size (o.Imm k) a w names bytes shows flags first =
+    let (u, runs, from) = sets_operand size (o.Imm k) a w names shows flags (record { read = λ e. absurd cc }) in (u, runs_allowed runs, from)
 takes_run size (o.Mem m) a w names bytes shows flags first =
     let (u, runs, read, shown) = reads_run size (o.Mem m) a w names bytes shows first in (
       u,
@@ -145,7 +149,7 @@ takes_run size (o.Mem m) a w names bytes shows flags first =
       record {
         taken = record { names = read.names; shows = read.shows; operand = shown.read refl };
         flags = flags_stay a.flags w.names u.names read.flags flags;
-        same = record { mem = read.mem; left = read.left; calls = read.calls };
+        same = record { mem = read.mem; pages = read.pages; left = read.left; calls = read.calls };
       },
     )
 
@@ -170,6 +174,7 @@ ends_stand size d value a x r f w u t last shows one two known written = record 
   fs = shows.fs ∙ sym (written.fs ∙ known.seen.taken.shows.fs);
   gs = shows.gs ∙ sym (written.gs ∙ known.seen.taken.shows.gs);
   mem = sym (written.mem ∙ ap (λ m. stored m (put size d value a (done a f)).store) (two.mem ∙ one.mem));
+  pages = sym (written.pages ∙ two.pages ∙ one.pages);
   left = sym (written.left ∙ two.left ∙ one.left);
   calls = sym (written.calls ∙ two.calls ∙ one.calls);
 }
@@ -179,7 +184,7 @@ pub computes_to : (size : Size) (d : Operand) (e : CExpr) (r value : ℕ) (a : S
     → AreNames w.names → AreBytes w.mem → Shows a w.names → FlagsStand a.flags w.names → a.first ≡ read_by (operand_read size d a.regs a.fs a.gs) w.mem
     → ((v : Names) → Taken a (value_of size d a) v → word_of e v ≡ Some r) → r < 2 ^ 32 → r ≡ value
     → ((u : World) → Known a (value_of size d a) r a.flags u.names → Sets a (value_of size d a) r f flags u)
-    → LeadsOn (put size d value a (done a f)).go (put size d value a (done a f)) (state_in w a.flags) (takes size d ++ computes size d flags e) w
+    → LeadsOn (refused w.pages.read (operand_read size d a.regs a.fs a.gs)) (put size d value a (done a f)).go (put size d value a (done a f)) (state_in w a.flags) (takes size d ++ computes size d flags e) w
 computes_to size d e r value a f flags w names bytes shows stand first word fits is sets =
     let x : ℕ = value_of size d a in
     let (u, runs, from) = takes_run size d a w names bytes shows stand first in
@@ -187,6 +192,10 @@ computes_to size d e r value a f flags w names bytes shows stand first word fits
     let (t, more, known, same) = sets v (kept_result a x r u.names fits from.taken from.flags) in
     let (last, ends, written) = writes_run size d (temp 2) (t.names (name.T 2)) value a (done a f) t known.seen.taken.names known.seen.taken.shows known.seen.taken.shows.regs refl
     (name_value t.names (name.T 2)) (known.seen.taken.names.words (name.T 2)) (ap (low_part (bits_of size)) (known.seen.result ∙ is)) in
-    leads_next (put size d value a (done a f)) (state_in w a.flags) (takes size d ++ computes size d flags e) w last (put_go size d value a (done a f))
-    (runs_append {t = last} (takes size d) (computes size d flags e) runs (set_runs {u = last} (name.T 2) e r (word u.names from.taken) (runs_append {t = last} flags (writes size d (temp 2)) more ends)))
-    (ends_stand size d value a x r f w u t last shows from.same (record { mem = same.mem; left = same.left; calls = same.calls }) known written)
+    let bad : Option ℕ = refused w.pages.read (operand_read size d a.regs a.fs a.gs) in
+    let o : Option Stored = (put size d value a (done a f)).store in
+    leads_next bad (put size d value a (done a f)) (state_in w a.flags) (takes size d ++ computes size d flags e) w last (put_go size d value a (done a f))
+    (write_after {t = last} bad o (takes size d) (computes size d flags e) from.same.mem from.same.pages from.same.calls runs
+    (set_runs_to {u = last} _ (name.T 2) e r (word u.names from.taken)
+    (write_after {t = last} None o flags (writes size d (temp 2)) same.mem same.pages same.calls (runs_allowed more) ends)))
+    (ends_stand size d value a x r f w u t last shows from.same (record { mem = same.mem; pages = same.pages; left = same.left; calls = same.calls }) known written)

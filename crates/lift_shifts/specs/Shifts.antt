@@ -90,10 +90,10 @@ over_word Sar size = num 0
 over_word Rol size = bin op.Xor (top_word (bits_of size) (temp 2)) (lowest_word (temp 2))
 over_word Ror size = bin op.Xor (top_word (bits_of size) (temp 2)) (lowest_word (bin op.Shr (temp 2) (num (bits_of size - 2))))
 
--- SHL, SHR, SAR, ROL and ROR. A number that is 0 modulo 32 does nothing.
+-- SHL, SHR, SAR, ROL and ROR. By a number that is 0 modulo 32 the operand is read, and nothing more is done.
 abbrev pub shift_stmts : ShiftOp → Size → Operand → Count → List Stmt
 shift_stmts f size d c =
-    if is_none c then []
+    if is_none c then reads size d
     else takes size d ++ computes size d (sets_shifted (rotates f) size c (carry_word f size c) (over_word f size)) (shift_word f size c)
 
 -- ---- double shifts
@@ -110,5 +110,5 @@ double_carry_word false c = carry_word Shr W c
 -- SHLD and SHRD
 abbrev pub double_stmts : Bool → Operand → ℕ → Count → List Stmt
 double_stmts left d g c =
-    if is_none c then []
+    if is_none c then reads W d
     else takes W d ++ computes W d (sets_shifted false W c (double_carry_word left c) (over_word Shl W)) (double_word left g c)

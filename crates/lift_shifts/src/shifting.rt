@@ -76,7 +76,7 @@ fn rotates(op: ShiftOp) -> bool
     }
 }
 
-/// The block of a shift or rotation.
+/// The block of a shift or rotation. By a number that is 0 modulo 32 the operand is read and nothing more.
 pub fn shift_block(
     alloc: Global,
     at: u32,
@@ -89,6 +89,7 @@ pub fn shift_block(
 {
     let mut stmts = Vec::new(alloc);
     if is_none(count) {
+        push_reads(alloc, &mut stmts, size, d)?;
         return Ok(goes_on(at, stmts));
     }
     let shifted = Shifted {
@@ -111,7 +112,7 @@ fn double_carry_word(alloc: Global, left: bool, count: Count) -> Result<Expr, Al
     }
 }
 
-/// The block of a double shift.
+/// The block of a double shift. By a number that is 0 modulo 32 the operand is read and nothing more.
 pub fn double_block(
     alloc: Global,
     at: u32,
@@ -124,6 +125,7 @@ pub fn double_block(
 {
     let mut stmts = Vec::new(alloc);
     if is_none(count) {
+        push_reads(alloc, &mut stmts, Size::W, d)?;
         return Ok(goes_on(at, stmts));
     }
     let shifted = Shifted {
