@@ -32,9 +32,9 @@ use Rattle.c_words.proofs.Layers.{word_layer}
 use Rattle.micro_ir.specs.declared.flow.Stmt.{Stmt}
 use Rattle.micro_ir.specs.declared.flow.Stmt.TheVariants as stmt
 use Rattle.lift_parts.specs.Parts.{raw_word, reads, pair_reads}
-use Rattle.lift_parts.specs.Shown.{Runs, Shows, ShowsRead}
+use Rattle.lift_parts.specs.Shown.{RunsTo, Shows, ShowsRead}
 use Rattle.lift_parts.specs.Stands.{FlagsStand, StandsFor, state_in}
-use Rattle.lift_parts.proofs.Chains.{none_run, set_runs}
+use Rattle.lift_parts.proofs.Chains.{faults_append, none_run, runs_allowed, set_runs}
 use Rattle.lift_parts.proofs.Kept.{AfterRead, reads_run, pair_reads_run}
 use Rattle.lift_parts.proofs.Values.{IsRaw, low_fits, raw_is, value_fits, word_fits}
 use Rattle.lift_alu.specs.declared.alu.AluLift.{AluLift}
@@ -45,7 +45,7 @@ use Rattle.lift_alu.proofs.Truths.{cond_truth}
 use Rattle.lift.specs.Blocks.{alu_stmts, carry_word, neg_stmts, step_stmts, test_stmts}
 use Rattle.lift_blocks.specs.Flags.{computes, sets_but_carry, sets_flags}
 use Rattle.lift_blocks.specs.Effects.{GoesOn, LeadsOn}
-use Rattle.lift_blocks.proofs.Common.{by_step}
+use Rattle.lift_blocks.proofs.Common.{by_step, leads_astray}
 use Rattle.lift_blocks.proofs.FlagWords.{AreKnown, Give, Sees, all_but_carry_set, all_set, computes_on, flags_on}
 
 -- ---- the flags and the result of an operation
@@ -164,28 +164,28 @@ seen : (size : Size) (d s : Operand) (a : Step) (w u : World) → AfterRead a w 
     → Sees size d s a (w.names (name.Flag 0)) u.names
 seen size d s a w u read first second = record { names = read.names; shows = read.shows; first = first; second = second; carry = read.flags 0 }
 
-module _ (size : Size) (d s : Operand) (a : Step) (w u : World) (read : AfterRead a w u) (sees : Sees size d s a (w.names (name.Flag 0)) u.names) where
+module _ (bad : Option ℕ) (size : Size) (d s : Operand) (a : Step) (w u : World) (read : AfterRead a w u) (sees : Sees size d s a (w.names (name.Flag 0)) u.names) where
   abbrev Given : AluLift → ℕ → Flags → Type 0
   Given l value f = Give size d s a (w.names (name.Flag 0)) l value f
 
   -- what six words lead to, with and without a write
-  words_on : (b : Bool) (l : AluLift) (value : ℕ) (f : Flags) (before : List Stmt) → Runs before w u → Given l value f
+  words_on : (b : Bool) (l : AluLift) (value : ℕ) (f : Flags) (before : List Stmt) → RunsTo bad before w u → Given l value f
       → let e : Effect = if b then put size d value a (done a f) else done a f in
-      LeadsOn e.go e (state_in w a.flags) (before ++ (if b then computes size d (sets_flags l) l.result else sets_flags l)) w
+      LeadsOn bad e.go e (state_in w a.flags) (before ++ (if b then computes size d (sets_flags l) l.result else sets_flags l)) w
   words_on true l value f before runs give =
       computes_on size d s a (w.names (name.Flag 0)) f (sets_flags l) (all_set size d s a (w.names (name.Flag 0)) l value f give)
-      l.result value give.fits before w u runs read sees (give.lifts u.names sees).result
+      bad l.result value give.fits before w u runs read sees (give.lifts u.names sees).result
   words_on false l value f before runs give =
-      flags_on size d s a (w.names (name.Flag 0)) f (sets_flags l) (all_set size d s a (w.names (name.Flag 0)) l value f give) before w u runs read sees
+      flags_on size d s a (w.names (name.Flag 0)) f (sets_flags l) (all_set size d s a (w.names (name.Flag 0)) l value f give) bad before w u runs read sees
 
   -- the same, where CF is kept
-  words_keep_carry : (l : AluLift) (value : ℕ) (f : Flags) (before : List Stmt) → Runs before w u → StandsFor a.flags.c (w.names (name.Flag 0)) → Given l value f
+  words_keep_carry : (l : AluLift) (value : ℕ) (f : Flags) (before : List Stmt) → RunsTo bad before w u → StandsFor a.flags.c (w.names (name.Flag 0)) → Given l value f
       → let e : Effect = put size d value a (done a (keeping_carry a.flags f)) in
-      LeadsOn e.go e (state_in w a.flags) (before ++ computes size d (sets_but_carry l) l.result) w
+      LeadsOn bad e.go e (state_in w a.flags) (before ++ computes size d (sets_but_carry l) l.result) w
   words_keep_carry l value f before runs carry give =
       computes_on size d s a (w.names (name.Flag 0)) (keeping_carry a.flags f) (sets_but_carry l)
       (all_but_carry_set size d s a (w.names (name.Flag 0)) l value f give a.flags.c carry)
-      l.result value give.fits before w u runs read sees (give.lifts u.names sees).result
+      bad l.result value give.fits before w u runs read sees (give.lifts u.names sees).result
 
   -- the words of an operation on both operands give its result and its flags
   pair_gives : (op : AluOp) (c : Bool) → CarryIs op c (w.names (name.Flag 0))
@@ -199,68 +199,68 @@ module _ (size : Size) (d s : Operand) (a : Step) (w u : World) (read : AfterRea
       (first_raw size d s a (w.names (name.Flag 0))) (second_raw size d s a (w.names (name.Flag 0)))
 
   -- an operation, whatever is known of its carry
-  alu_leads : (op : AluOp) (o : Option Bool) → IsCarry op o (w.names (name.Flag 0)) → Runs (pair_reads size d s) w u
-      → let e : Effect = reading o a (λ c. alu_done op size d (value_of size d a) (value_of size s a) c a) in LeadsOn e.go e (state_in w a.flags) (alu_stmts op size d s) w
-  alu_leads op None h runs = tt
+  alu_leads : (op : AluOp) (o : Option Bool) → IsCarry op o (w.names (name.Flag 0)) → RunsTo bad (pair_reads size d s) w u
+      → let e : Effect = reading o a (λ c. alu_done op size d (value_of size d a) (value_of size s a) c a) in LeadsOn bad e.go e (state_in w a.flags) (alu_stmts op size d s) w
+  alu_leads op None h runs = leads_astray bad a (state_in w a.flags) (alu_stmts op size d s) w (faults_append bad (pair_reads size d s) _ runs)
   alu_leads op (Some c) h runs =
       let bits : ℕ = bits_of size in
       let v : ℕ = alu_value op bits (value_of size d a) (value_of size s a) c in
       let f : Flags = alu_flags op bits (value_of size d a) (value_of size s a) c in
-      subst (λ e. LeadsOn e.go e (state_in w a.flags) (alu_stmts op size d s) w) (sym (written_is op size d v a (done a f)))
+      subst (λ e. LeadsOn bad e.go e (state_in w a.flags) (alu_stmts op size d s) w) (sym (written_is op size d v a (done a f)))
       (words_on (writes_operand op) (alu_words op bits (raw_word size d) (raw_word size s)) v f (pair_reads size d s) runs (pair_gives op c h))
 
 -- ADD, OR, ADC, SBB, AND, SUB, XOR and CMP
 pub alu_goes : (op : AluOp) (size : Size) (d s : Operand) (next : ℕ) → GoesOn (i.Alu op size d s) next (alu_stmts op size d s)
-alu_goes op size d s next = by_step (i.Alu op size d s) next (alu_stmts op size d s) (λ a w b.
+alu_goes op size d s next = by_step (i.Alu op size d s) next (alu_stmts op size d s) (λ a. refl) (λ a w b.
     let (u, runs, read, first, second) = pair_reads_run size d s a w b.names b.bytes b.shows b.first in
-    alu_leads size d s a w u read (seen size d s a w u read first second) op (alu_carry op a)
+    alu_leads _ size d s a w u read (seen size d s a w u read first second) op (alu_carry op a)
     (carry_read op a (w.names (name.Flag 0)) b.flags.c) runs)
 
 -- TEST
 pub test_goes : (size : Size) (d s : Operand) (next : ℕ) → GoesOn (i.Test size d s) next (test_stmts size d s)
-test_goes size d s next = by_step (i.Test size d s) next (test_stmts size d s) (λ a w b.
+test_goes size d s next = by_step (i.Test size d s) next (test_stmts size d s) (λ a. refl) (λ a w b.
     let (u, runs, read, first, second) = pair_reads_run size d s a w b.names b.bytes b.shows b.first in
     let bits : ℕ = bits_of size in
     let x : ℕ = value_of size d a in
     let y : ℕ = value_of size s a in
     let sees = seen size d s a w u read first second in
-    words_on size d s a w u read sees false (alu_words op.And bits (raw_word size d) (raw_word size s)) (alu_value op.And bits x y false) (alu_flags op.And bits x y false)
-    (pair_reads size d s) runs (pair_gives size d s a w u read sees op.And false tt))
+    words_on _ size d s a w u read sees false (alu_words op.And bits (raw_word size d) (raw_word size s)) (alu_value op.And bits x y false) (alu_flags op.And bits x y false)
+    (pair_reads size d s) runs (pair_gives None size d s a w u read sees op.And false tt))
 
 -- ---- operations on one operand
 
 -- what an operation on the operand and 1 leads to, where CF is kept
-step_leads : (op : AluOp) (size : Size) (d : Operand) (a : Step) (w u : World) → ((k : ℕ) → CarryIs op false k) → StandsFor a.flags.c (w.names (name.Flag 0))
-    → Runs (reads size d) w u → AfterRead a w u → ShowsRead size d a u.names
+step_leads : (bad : Option ℕ) (op : AluOp) (size : Size) (d : Operand) (a : Step) (w u : World) → ((k : ℕ) → CarryIs op false k) → StandsFor a.flags.c (w.names (name.Flag 0))
+    → RunsTo bad (reads size d) w u → AfterRead a w u → ShowsRead size d a u.names
     → let x : ℕ = value_of size d a in
     let e : Effect = put size d (alu_value op (bits_of size) x 1 false) a (done a (keeping_carry a.flags (alu_flags op (bits_of size) x 1 false))) in
-    LeadsOn e.go e (state_in w a.flags) (step_stmts op size d) w
-step_leads op size d a w u carry kept runs read shown =
+    LeadsOn bad e.go e (state_in w a.flags) (step_stmts op size d) w
+step_leads bad op size d a w u carry kept runs read shown =
     let k : ℕ = w.names (name.Flag 0) in
     let x : ℕ = value_of size d a in
-    words_keep_carry size d d a w u read (seen size d d a w u read shown shown)
+    words_keep_carry bad size d d a w u read (seen size d d a w u read shown shown)
     (alu_words op (bits_of size) (raw_word size d) (num 1)) (alu_value op (bits_of size) x 1 false) (alu_flags op (bits_of size) x 1 false) (reads size d) runs kept
     (alu_gives size d d a k op (raw_word size d) (num 1) x 1 false (carry k) (value_fits a u.names read.names read.shows size d) (small_fits size 1 (lit< tt))
     (first_raw size d d a k) (λ v h. small_raw size 1 (lit< tt) v))
 
 -- INC and DEC
 pub inc_goes : (size : Size) (d : Operand) (next : ℕ) → GoesOn (i.Inc size d) next (step_stmts op.Add size d)
-inc_goes size d next = by_step (i.Inc size d) next (step_stmts op.Add size d) (λ a w b.
+inc_goes size d next = by_step (i.Inc size d) next (step_stmts op.Add size d) (λ a. refl) (λ a w b.
     let (u, runs, read, shown) = reads_run size d a w b.names b.bytes b.shows b.first in
-    step_leads op.Add size d a w u (λ k. tt) b.flags.c runs read shown)
+    step_leads _ op.Add size d a w u (λ k. tt) b.flags.c runs read shown)
 
 pub dec_goes : (size : Size) (d : Operand) (next : ℕ) → GoesOn (i.Dec size d) next (step_stmts op.Sub size d)
-dec_goes size d next = by_step (i.Dec size d) next (step_stmts op.Sub size d) (λ a w b.
+dec_goes size d next = by_step (i.Dec size d) next (step_stmts op.Sub size d) (λ a. refl) (λ a w b.
     let (u, runs, read, shown) = reads_run size d a w b.names b.bytes b.shows b.first in
-    step_leads op.Sub size d a w u (λ k. tt) b.flags.c runs read shown)
+    step_leads _ op.Sub size d a w u (λ k. tt) b.flags.c runs read shown)
 
 -- NEG
 pub neg_goes : (size : Size) (d : Operand) (next : ℕ) → GoesOn (i.Neg size d) next (neg_stmts size d)
-neg_goes size d next = by_step (i.Neg size d) next (neg_stmts size d) (λ a w b.
+neg_goes size d next = by_step (i.Neg size d) next (neg_stmts size d) (λ a. refl) (λ a w b.
     let (u, runs, read, shown) = reads_run size d a w b.names b.bytes b.shows b.first in
     let k : ℕ = w.names (name.Flag 0) in
     let x : ℕ = value_of size d a in
-    words_on size d d a w u read (seen size d d a w u read shown shown) true
+    words_on _ size d d a w u read (seen size d d a w u read shown shown) true
     (alu_words op.Sub (bits_of size) (num 0) (raw_word size d)) (alu_value op.Sub (bits_of size) 0 x false) (alu_flags op.Sub (bits_of size) 0 x false) (reads size d) runs
     (alu_gives size d d a k op.Sub (num 0) (raw_word size d) 0 x false tt (small_fits size 0 (lit< tt)) (value_fits a u.names read.names read.shows size d)
     (λ v h. small_raw size 0 (lit< tt) v) (first_raw size d d a k)))
@@ -269,16 +269,17 @@ neg_goes size d next = by_step (i.Neg size d) next (neg_stmts size d) (λ a w b.
 
 -- CF is set to a word that stands for it
 carry_set : (a : Step) (w : World) (e : CExpr) (x : ℕ) (b : Bit) → Shows a w.names → FlagsStand a.flags w.names → word_of e w.names ≡ Some x → StandsFor b x
-    → let f : Effect = done a (record a.flags { c = b }) in LeadsOn f.go f (state_in w a.flags) (stmt.Set (name.Flag 0) e ∷ []) w
+    → let f : Effect = done a (record a.flags { c = b }) in LeadsOn None f.go f (state_in w a.flags) (stmt.Set (name.Flag 0) e ∷ []) w
 carry_set a w e x b shows flags is stands = (
   set_word (name.Flag 0) x w,
-  set_runs (name.Flag 0) e x is (none_run _),
+  runs_allowed (set_runs (name.Flag 0) e x is (none_run _)),
   record {
     regs = sym shows.regs;
     flags = record { c = stands; p = flags.p; z = flags.z; s = flags.s; o = flags.o };
     fs = refl;
     gs = refl;
     mem = refl;
+    pages = refl;
     left = refl;
     calls = refl;
   },
@@ -291,17 +292,17 @@ word_if_is v false h = simp word_layer (ap (λ t. picked t (Some 1) (Some 0)) h)
 
 -- CMC, by what the carry is
 flip_leads : (c : Bit) (p : Bool) (a : Step) (w : World) → Shows a w.names → FlagsStand a.flags w.names → word_of (word_if (flag_clear 0)) w.names ≡ Some (bit_of p) → IsKnownAs (opposite (known c)) p
-    → let e : Effect = reading (known c) a (λ c. done a (record a.flags { c = flag_if (not c) })) in LeadsOn e.go e (state_in w a.flags) (stmt.Set (name.Flag 0) (word_if (flag_clear 0)) ∷ []) w
+    → let e : Effect = reading (known c) a (λ c. done a (record a.flags { c = flag_if (not c) })) in LeadsOn None e.go e (state_in w a.flags) (stmt.Set (name.Flag 0) (word_if (flag_clear 0)) ∷ []) w
 flip_leads Zero p a w shows flags is h = carry_set a w (word_if (flag_clear 0)) (bit_of p) One shows flags is (ap bit_of h)
 flip_leads One p a w shows flags is h = carry_set a w (word_if (flag_clear 0)) (bit_of p) Zero shows flags is (ap bit_of h)
 flip_leads Undefined p a w shows flags is h = tt
 
 -- CMC, CLC and STC. The condition of the number 3 is that CF is clear.
 pub carry_goes : (op : CarryOp) (next : ℕ) → GoesOn (i.Carry op) next (stmt.Set (name.Flag 0) (carry_word op) ∷ [])
-carry_goes Flip next = by_step (i.Carry Flip) next (stmt.Set (name.Flag 0) (carry_word Flip) ∷ []) (λ a w b.
+carry_goes Flip next = by_step (i.Carry Flip) next (stmt.Set (name.Flag 0) (carry_word Flip) ∷ []) (λ a. refl) (λ a w b.
     let (p, truth, is_known_as) = (cond_truth 3).truth w.names a.flags b.flags in
     flip_leads a.flags.c p a w b.shows b.flags (word_if_is w.names p truth) is_known_as)
-carry_goes Clear next = by_step (i.Carry Clear) next (stmt.Set (name.Flag 0) (carry_word Clear) ∷ []) (λ a w b.
+carry_goes Clear next = by_step (i.Carry Clear) next (stmt.Set (name.Flag 0) (carry_word Clear) ∷ []) (λ a. refl) (λ a w b.
     carry_set a w (num 0) 0 Zero b.shows b.flags (simp word_layer refl) refl)
-carry_goes Put next = by_step (i.Carry Put) next (stmt.Set (name.Flag 0) (carry_word Put) ∷ []) (λ a w b.
+carry_goes Put next = by_step (i.Carry Put) next (stmt.Set (name.Flag 0) (carry_word Put) ∷ []) (λ a. refl) (λ a w b.
     carry_set a w (num 1) 1 One b.shows b.flags (simp word_layer refl) refl)

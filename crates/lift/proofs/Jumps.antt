@@ -6,12 +6,14 @@ use Rattle.dream_words.specs.declared.machine.Flags.{Flags}
 use Rattle.dream_words.specs.declared.machine.Name.TheVariants as name
 use Rattle.dream_words.specs.declared.outcome.Answer.{Answer}
 use Rattle.dream_words.specs.declared.outcome.Call.{Call}
+use Rattle.dream_words.specs.declared.outcome.Outcome.TheVariants as outcome
 use Rattle.dream_words.specs.Memory.{Mem as Memory, load, store, bytes_of}
+use Rattle.dream_words.specs.Pages.{first_bad}
 use Rattle.dream_words.specs.Registers.{with_reg, reg_of}
 use Rattle.dream_words.specs.Words.{low_part}
-use Rattle.run_parts.specs.Steps.{having, then_do, arrive}
+use Rattle.run_parts.specs.Steps.{Next, having, then_do, arrive}
 use Rattle.run_parts.specs.World.{World, with_name, regs_in}
-use Rattle.run_parts.specs.Effects.{answered_by, calling}
+use Rattle.run_parts.specs.Effects.{Doing, allowing, answered_by, calling}
 use Rattle.c_syntax.specs.declared.syntax.CBin.TheVariants as op
 use Rattle.c_syntax.specs.declared.syntax.CCmp.TheVariants as test
 use Rattle.c_syntax.specs.declared.syntax.CExpr.{CExpr}
@@ -29,14 +31,15 @@ use Rattle.x86_model.specs.declared.effect.Go.TheVariants as go
 use Rattle.x86_model.specs.declared.effect.Step.{Step}
 use Rattle.x86_model.specs.Arithmetic.{minus_of}
 use Rattle.x86_model.specs.Effects.{condition_of, reading, done, goes}
-use Rattle.x86_model.specs.Machine.{State, At, Finished, Returned}
+use Rattle.x86_model.specs.Machine.{State, At, Ending, Finished, Onward, Returned}
 use Rattle.x86_model.specs.Operands.{width_of, address_of, value_of}
-use Rattle.x86_model.specs.Leads.{call_of, answered_or, instruction_does, step_does, step_of, leads}
+use Rattle.x86_model.specs.Leads.{allowed, call_of, answered_or, effect_in, instruction_does, step_does, step_of, leads}
+use Rattle.x86_model.specs.Reads.{reads_of}
 use Rattle.x86_model.specs.Rows.{is_bare}
 use Rattle.micro_ir.specs.declared.flow.Block.{Block}
 use Rattle.micro_ir.specs.declared.flow.End.TheVariants as end
 use Rattle.micro_ir.specs.declared.flow.Stmt.TheVariants as stmt
-use Rattle.micro_ir.specs.Run.{branch, end_leads, stmts_do, left_by}
+use Rattle.micro_ir.specs.Run.{Arrive, branch, end_leads, stmts_do, left_by}
 use Rattle.micro_ir.specs.World.{IsWorld}
 use Rattle.lift_parts.specs.Parts.{reg, temp, address_word, raw_word, reads}
 use Rattle.lift_parts.specs.Stands.{FlagsStand, Stands, state_in}
@@ -46,9 +49,19 @@ use Rattle.lift_alu.specs.Words.{cond_words}
 use Rattle.lift_alu.proofs.Truths.{cond_truth}
 use Rattle.lift.specs.Blocks.{target, counts_down, call_stmts, call_to_stmts, block_of}
 use Rattle.lift_blocks.specs.Effects.{HasEffect}
+use Rattle.lift_blocks.proofs.Common.{one_refused}
 use Rattle.lift_blocks.proofs.Does.{num_is, name_is, bin_is, cmp_is, minus_is, set_does, load_does, store_does, ext_does, trap_does, names_of, flags_reg, flags_answered, stands_here}
 use Rattle.lift_parts.proofs.Values.{address_is, reg_is, load_fits}
 use Rattle.lift_parts.proofs.Writes.{store_low}
+
+-- ---- accesses
+
+-- what an access that is allowed leads to, or its fault
+allowed_case : (bad : Option ℕ) (succ : List ℕ) (w u : World) (f : Flags) (next : Onward State Ending) (d : Doing) (k : World → Arrive) (blocks : List Block) → u.mem ≡ w.mem → u.calls ≡ w.calls
+    → Matches 1 succ next (through 1 blocks (arrive d k)) → Matches 1 succ (allowed bad (state_in w f) next) (through 1 blocks (arrive (allowing bad u d) k))
+allowed_case None succ w u f next d k blocks m c h = h
+allowed_case (Some at) succ w u f next d k blocks m c h =
+    ap (λ m. outcome.Faulted 14 at m w.calls) (sym m) ∙ ap (λ cs. outcome.Faulted 14 at u.mem cs) (sym c)
 
 -- ---- jumps
 
@@ -94,7 +107,7 @@ abbrev counted : World → ℕ → World
 counted w n = record w { names = with_name w.names (name.Reg 1) n }
 
 stands_counted : (w : World) (f : Flags) (n : ℕ) → FlagsStand f w.names → Stands (record (state_in w f) { regs = with_reg (regs_in w.names) 1 n }) (counted w n)
-stands_counted w f n h = record { regs = refl; flags = flags_reg f w.names 1 n h; fs = refl; gs = refl; mem = refl; left = refl; calls = refl }
+stands_counted w f n h = record { regs = refl; flags = flags_reg f w.names 1 n h; fs = refl; gs = refl; mem = refl; pages = refl; left = refl; calls = refl }
 
 loop_case : (to at next n : ℕ) (x : Inst) (w : World) (f : Flags) (blocks : List Block) (b : Bool) → FlagsStand f w.names
     → Matches 1 (to ∷ next ∷ [])
@@ -166,19 +179,25 @@ call_case : (at next esp : ℕ) (w : World) (f : Flags) (mem : Memory) (blocks :
     (through 1 blocks (arrive (then_do (answered_by left calls (pushed w esp mem)) (stmts_do [])) (end_leads (end.Go 1))))
 call_case at next esp w f mem blocks [] calls = refl
 call_case at next esp w f mem blocks (x ∷ rest) calls =
-    (0, refl, refl, record { regs = refl; flags = flags_answered x (pushed w esp mem).names; fs = refl; gs = refl; mem = refl; left = refl; calls = refl })
+    (0, refl, refl, record { regs = refl; flags = flags_answered x (pushed w esp mem).names; fs = refl; gs = refl; mem = refl; pages = refl; left = refl; calls = refl })
+
+-- the world after ESP is set alone
+abbrev lowered : World → ℕ → World
+lowered w esp = record w { names = with_name w.names (name.Reg 4) esp }
 
 -- where the statements of a call lead
 call_does : (next to esp : ℕ) (e : CExpr) (w : World) → esp ≡ minus_of 32 (w.names (name.Reg 4)) 4 → w.names (name.Reg 4) < 2 ^ 32
     → word_of e (with_name w.names (name.Reg 4) esp) ≡ Some to
-    → stmts_do (call_stmts next e) w ≡ then_do (calling to (pushed w esp (store w.mem esp (bytes_of (width_of W)) next))) (stmts_do [])
+    → stmts_do (call_stmts next e) w
+    ≡ allowing (first_bad w.pages.write esp (bytes_of (width_of W))) (lowered w esp)
+    (then_do (calling to (pushed w esp (store w.mem esp (bytes_of (width_of W)) next))) (stmts_do []))
 call_does next to esp e w s below h =
     let old = w.names (name.Reg 4) in
     let less = bin_is op.Sub (reg 4) (num 4) w.names old 4 (name_is (name.Reg 4) w.names) (num_is 4 w.names) ∙ ap (λ k. Some k) (minus_is old 4 below (lit< tt) ∙ sym s) in
-    let u : World = record w { names = with_name w.names (name.Reg 4) esp } in
+    let u : World = lowered w esp in
     set_does (name.Reg 4) (bin op.Sub (reg 4) (num 4)) (stmt.Store (width_of W) (reg 4) (num next) ∷ stmt.Ext e ∷ []) w esp less
     ∙ store_does (width_of W) (reg 4) (num next) (stmt.Ext e ∷ []) u esp next (name_is (name.Reg 4) u.names) (num_is next u.names)
-    ∙ ext_does e [] (pushed w esp (store w.mem esp (bytes_of (width_of W)) next)) to h
+    ∙ ap (allowing (first_bad w.pages.write esp (bytes_of (width_of W))) u) (ext_does e [] (pushed w esp (store w.mem esp (bytes_of (width_of W)) next)) to h)
 
 -- what a call's step does in the state of a world
 abbrev call_step : (next to esp : ℕ) → World → Flags → Effect
@@ -200,11 +219,14 @@ call_leads at next to e w f blocks below h =
     let low = store_low w.mem esp W (low_part 32 next) next (low_twice next) in
     let calls : Memory → List Call = λ mem. w.calls ++ call_of to (pushed_state w f esp mem) ∷ [] in
     let m : Memory = store w.mem esp wide (low_part 32 next) in
-    subst (λ d. Matches 1 (next ∷ []) (leads (go.CallTo to) at next (pushed_state w f esp m)) (through 1 blocks (arrive d (end_leads (end.Go 1)))))
+    let bad = first_bad w.pages.write esp wide in
+    let onward = leads (go.CallTo to) at next (pushed_state w f esp m) in
+    subst (λ d. Matches 1 (next ∷ []) (allowed bad (state_in w f) onward) (through 1 blocks (arrive d (end_leads (end.Go 1)))))
     (sym (call_does next to esp e w refl below (h esp)))
-    (subst (λ mem. Matches 1 (next ∷ []) (leads (go.CallTo to) at next (pushed_state w f esp m))
+    (allowed_case bad (next ∷ []) w (lowered w esp) f onward (then_do (calling to (pushed w esp (store w.mem esp wide next))) (stmts_do [])) (end_leads (end.Go 1)) blocks refl refl
+    (subst (λ mem. Matches 1 (next ∷ []) onward
     (through 1 blocks (arrive (then_do (calling to (pushed w esp mem)) (stmts_do [])) (end_leads (end.Go 1)))))
-    low (call_case at next esp w f m blocks w.left (calls m)))
+    low (call_case at next esp w f m blocks w.left (calls m))))
 
 pub call_effect : (distance at next : ℕ) → HasEffect (i.Call distance) at next (block_of (i.Call distance) at next)
 call_effect distance at next = record {
@@ -226,36 +248,45 @@ memory_address m next w f is = address_is (word_step (o.Mem m) next w f) w.names
 abbrev with_read : World → Mem → World
 with_read w m = record w { names = with_name w.names (name.T 0) (load w.mem (address_of m (regs_in w.names) (w.names name.Fs) (w.names name.Gs)) (bytes_of (width_of W))) }
 
+-- the address at which the read of memory is refused
+abbrev refused_at : Mem → World → Option ℕ
+refused_at m w = first_bad w.pages.read (address_of m (regs_in w.names) (w.names name.Fs) (w.names name.Gs)) (bytes_of (width_of W))
+
 -- a word that is read is its low part
 low_read : (w : World) (at : ℕ) → IsWorld w → load w.mem at (bytes_of (width_of W)) ≡ low_part 32 (load w.mem at (bytes_of (width_of W)))
 low_read w at is = let below : load w.mem at (bytes_of (width_of W)) < 2 ^ 32 = load_fits w.mem is.bytes at W in sym (mod-eq_of_lt below)
 
--- the statements lead to those of a call of t2, and the step is that of a call of its word
-call_by : (at next to : ℕ) (s : Operand) (w u : World) (f : Flags) → u.names (name.Reg 4) < 2 ^ 32 → word_of (raw_word W s) u.names ≡ Some to
-    → stmts_do (call_to_stmts next s) w ≡ stmts_do (stmt.Set (name.T 2) (raw_word W s) ∷ call_stmts next (temp 2)) u
-    → Matches 1 (next ∷ []) (step_does (call_step next to (minus_of 32 (u.names (name.Reg 4)) 4) u f) at next (state_in u f))
+-- the statements lead to those of a call of t2, and the step is that of a call of its word; or the read is refused
+call_by : (bad : Option ℕ) (at next to : ℕ) (s : Operand) (w u : World) (f : Flags) → u.names (name.Reg 4) < 2 ^ 32 → word_of (raw_word W s) u.names ≡ Some to
+    → stmts_do (call_to_stmts next s) w ≡ allowing bad w (stmts_do (stmt.Set (name.T 2) (raw_word W s) ∷ call_stmts next (temp 2)) u)
+    → Matches 1 (next ∷ []) (allowed bad (state_in w f) (step_does (call_step next to (minus_of 32 (u.names (name.Reg 4)) 4) u f) at next (state_in u f)))
     (through 1 (block_of (i.CallTo s) at next ∷ []) (arrive (stmts_do (call_to_stmts next s) w) (end_leads (end.Go 1))))
-call_by at next to s w u f below value does =
+call_by bad at next to s w u f below value does =
     let t : World = record u { names = with_name u.names (name.T 2) to } in
-    let d = does ∙ set_does (name.T 2) (raw_word W s) (call_stmts next (temp 2)) u to value in
-    subst (λ d. Matches 1 (next ∷ []) (step_does (call_step next to (minus_of 32 (u.names (name.Reg 4)) 4) u f) at next (state_in u f))
-    (through 1 (block_of (i.CallTo s) at next ∷ []) (arrive d (end_leads (end.Go 1))))) (sym d)
-    (call_leads at next to (temp 2) t f (block_of (i.CallTo s) at next ∷ []) below (λ esp. name_is (name.T 2) (with_name t.names (name.Reg 4) esp)))
+    let d = does ∙ ap (allowing bad w) (set_does (name.T 2) (raw_word W s) (call_stmts next (temp 2)) u to value) in
+    let step = step_does (call_step next to (minus_of 32 (u.names (name.Reg 4)) 4) u f) at next (state_in u f) in
+    subst (λ d. Matches 1 (next ∷ []) (allowed bad (state_in w f) step) (through 1 (block_of (i.CallTo s) at next ∷ []) (arrive d (end_leads (end.Go 1))))) (sym d)
+    (allowed_case bad (next ∷ []) w w f step (stmts_do (call_stmts next (temp 2)) t) (end_leads (end.Go 1)) (block_of (i.CallTo s) at next ∷ []) refl refl
+    (call_leads at next to (temp 2) t f (block_of (i.CallTo s) at next ∷ []) below (λ esp. name_is (name.T 2) (with_name t.names (name.Reg 4) esp))))
 
 pub call_to_effect : (s : Operand) (at next : ℕ) → HasEffect (i.CallTo s) at next (block_of (i.CallTo s) at next)
 call_to_effect (o.Reg n) at next = record {
-  effect = λ w f is h. call_by at next (reg_of (regs_in w.names) n) (o.Reg n) w w f (is.words (name.Reg 4))
+  effect = λ w f is h. call_by None at next (reg_of (regs_in w.names) n) (o.Reg n) w w f (is.words (name.Reg 4))
       (name_is (name.Reg n) w.names ∙ ap (λ x. Some x) (reg_is w.names (names_of w is) n)) refl;
 }
 call_to_effect (o.Imm k) at next = record {
-  effect = λ w f is h. call_by at next (low_part 32 k) (o.Imm k) w w f (is.words (name.Reg 4)) (num_is (low_part 32 k) w.names) refl;
+  effect = λ w f is h. call_by None at next (low_part 32 k) (o.Imm k) w w f (is.words (name.Reg 4)) (num_is (low_part 32 k) w.names) refl;
 }
 call_to_effect (o.Mem m) at next = record {
   effect = λ w f is h.
       let place = address_of m (regs_in w.names) (w.names name.Fs) (w.names name.Gs) in
-      call_by at next (low_part 32 (load w.mem place (bytes_of (width_of W)))) (o.Mem m) w (with_read w m) f (is.words (name.Reg 4))
+      let x : Inst = i.CallTo (o.Mem m) in
+      subst (λ bad. Matches 1 (next ∷ []) (allowed bad (state_in w f) (step_does (effect_in x next (state_in w f)) at next (state_in w f)))
+      (through 1 (block_of x at next ∷ []) (arrive (stmts_do (call_to_stmts next (o.Mem m)) w) (end_leads (end.Go 1)))))
+      (one_refused w.pages.read (reads_of x (regs_in w.names) (w.names name.Fs) (w.names name.Gs)) refl)
+      (call_by (refused_at m w) at next (low_part 32 (load w.mem place (bytes_of (width_of W)))) (o.Mem m) w (with_read w m) f (is.words (name.Reg 4))
       (name_is (name.T 0) (with_read w m).names ∙ ap (λ x. Some x) (low_read w place is))
-      (load_does (name.T 0) (width_of W) (address_word m) (stmt.Set (name.T 2) (temp 0) ∷ call_stmts next (temp 2)) w place (memory_address m next w f is));
+      (load_does (name.T 0) (width_of W) (address_word m) (stmt.Set (name.T 2) (temp 0) ∷ call_stmts next (temp 2)) w place (memory_address m next w f is)));
 }
 
 -- a jump that leaves ends with its answer, or asks
@@ -264,27 +295,40 @@ leave_case : (blocks : List Block) (u : World) (left : List Answer) (calls : Lis
 leave_case blocks u [] calls = refl
 leave_case blocks u (x ∷ rest) calls = refl
 
--- where the block leads
+-- where the block leads once the word is read
 leave_leads : (m : Mem) (next : ℕ) (w : World) (f : Flags) → IsWorld w
-    → arrive (stmts_do (reads W (o.Mem m)) w) (end_leads (end.Leave (temp 0))) ≡ left_by (calling (value_of W (o.Mem m) (word_step (o.Mem m) next w f)) (with_read w m))
+    → end_leads (end.Leave (temp 0)) (with_read w m) ≡ left_by (calling (value_of W (o.Mem m) (word_step (o.Mem m) next w f)) (with_read w m))
 leave_leads m next w f is =
     let place = address_of m (regs_in w.names) (w.names name.Fs) (w.names name.Gs) in
     let u = with_read w m in
-    ap (λ d. arrive d (end_leads (end.Leave (temp 0)))) (load_does (name.T 0) (width_of W) (address_word m) [] w place (memory_address m next w f is))
-    ∙ ap (λ v. left_by (having v (λ t. calling t u))) (name_is (name.T 0) u.names ∙ ap (λ x. Some x) (low_read w place is))
+    ap (λ v. left_by (having v (λ t. calling t u))) (name_is (name.T 0) u.names ∙ ap (λ x. Some x) (low_read w place is))
 
 -- by what is known of the operand
 leave_by : (b : Bool) (at next : ℕ) (m : Mem) (w : World) (f : Flags) → IsWorld w → b ≡ true
     → Matches 1 []
-    (step_does (goes (if b then go.LeaveTo (value_of W (o.Mem m) (word_step (o.Mem m) next w f)) else go.To (value_of W (o.Mem m) (word_step (o.Mem m) next w f))) (word_step (o.Mem m) next w f)) at next (state_in w f))
+    (allowed (refused_at m w) (state_in w f)
+    (step_does (goes (if b then go.LeaveTo (value_of W (o.Mem m) (word_step (o.Mem m) next w f)) else go.To (value_of W (o.Mem m) (word_step (o.Mem m) next w f))) (word_step (o.Mem m) next w f)) at next (state_in w f)))
     (through 1 (block_of (i.JmpTo (o.Mem m)) at next ∷ []) (arrive (stmts_do (reads W (o.Mem m)) w) (end_leads (end.Leave (temp 0)))))
 leave_by false at next m w f is e = absurd cc
 leave_by true at next m w f is e =
     let to = value_of W (o.Mem m) (word_step (o.Mem m) next w f) in
-    subst (λ r. Matches 1 [] (leads (go.LeaveTo to) at next (state_in w f)) (through 1 (block_of (i.JmpTo (o.Mem m)) at next ∷ []) r)) (sym (leave_leads m next w f is))
-    (leave_case (block_of (i.JmpTo (o.Mem m)) at next ∷ []) (with_read w m) w.left (w.calls ++ call_of to (state_in w f) ∷ []))
+    let place = address_of m (regs_in w.names) (w.names name.Fs) (w.names name.Gs) in
+    let blocks = block_of (i.JmpTo (o.Mem m)) at next ∷ [] in
+    let onward = leads (go.LeaveTo to) at next (state_in w f) in
+    subst (λ d. Matches 1 [] (allowed (refused_at m w) (state_in w f) onward) (through 1 blocks (arrive d (end_leads (end.Leave (temp 0))))))
+    (sym (load_does (name.T 0) (width_of W) (address_word m) [] w place (memory_address m next w f is)))
+    (allowed_case (refused_at m w) [] w w f onward (Next (with_read w m)) (end_leads (end.Leave (temp 0))) blocks refl refl
+    (subst (λ r. Matches 1 [] onward (through 1 blocks r)) (sym (leave_leads m next w f is))
+    (leave_case blocks (with_read w m) w.left (w.calls ++ call_of to (state_in w f) ∷ []))))
 
 pub jmp_to_effect : (s : Operand) (at next : ℕ) → is_bare s ≡ true → HasEffect (i.JmpTo s) at next (block_of (i.JmpTo s) at next)
 jmp_to_effect (o.Reg n) at next e = absurd cc
 jmp_to_effect (o.Imm k) at next e = absurd cc
-jmp_to_effect (o.Mem m) at next e = record { effect = λ w f is h. leave_by (is_bare (o.Mem m)) at next m w f is e }
+jmp_to_effect (o.Mem m) at next e = record {
+  effect = λ w f is h.
+      let x : Inst = i.JmpTo (o.Mem m) in
+      subst (λ bad. Matches 1 [] (allowed bad (state_in w f) (step_does (effect_in x next (state_in w f)) at next (state_in w f)))
+      (through 1 (block_of x at next ∷ []) (arrive (stmts_do (reads W (o.Mem m)) w) (end_leads (end.Leave (temp 0))))))
+      (one_refused w.pages.read (reads_of x (regs_in w.names) (w.names name.Fs) (w.names name.Gs)) refl)
+      (leave_by (is_bare (o.Mem m)) at next m w f is e);
+}

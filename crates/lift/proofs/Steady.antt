@@ -1,15 +1,14 @@
 -- Statements and blocks that keep the rule of flows, aren't stuck, and store and call so many times.
-use Rattle.std.proofs.Common.{◌≡◌, ℕ, nat_eq, ◌+◌, ◌-◌, ◌^◌, ◌<◌, ◌≤◌, Bool, true, false, nat_lt, ◌&&◌, cond, List, [], ◌∷◌, ◌++◌, Option, Some, None, refl, subst, lit<, lit≤, arith}
+use Rattle.std.proofs.Common.{◌≡◌, ℕ, nat_eq, ◌+◌, ◌-◌, ◌^◌, ◌<◌, ◌≤◌, Bool, true, false, nat_lt, ◌&&◌, List, [], ◌∷◌, ◌++◌, Option, Some, None, refl, subst, lit<, lit≤, arith}
 use Rattle.std.specs.Prelude.{IsSome, IsTrue, if◌then◌else◌}
 use Rattle.dream_words.specs.declared.machine.Name.{Name}
 use Rattle.dream_words.specs.declared.machine.Name.TheVariants as name
 use Rattle.dream_words.specs.declared.machine.Width.{Width}
-use Rattle.dream_words.specs.declared.outcome.Answer.{Answer}
-use Rattle.dream_words.specs.declared.outcome.Call.{Call}
-use Rattle.dream_words.specs.declared.outcome.Outcome.TheVariants as outcome
+use Rattle.dream_words.specs.Memory.{bytes_of}
+use Rattle.dream_words.specs.Pages.{first_bad}
 use Rattle.run_parts.specs.Steps.{Next, Halt, Jam, To, End, Nowhere, having, then_do, arrive}
 use Rattle.run_parts.specs.World.{World}
-use Rattle.run_parts.specs.Effects.{Doing, setting, loading, storing, answered_by, calling, trapping}
+use Rattle.run_parts.specs.Effects.{Doing, setting, loading, storing, calling, trapping}
 use Rattle.c_syntax.specs.declared.syntax.CBin.TheVariants as op
 use Rattle.c_syntax.specs.declared.syntax.CExpr.{CExpr}
 use Rattle.c_syntax.specs.Formed.{is_word}
@@ -35,16 +34,11 @@ use Rattle.x86_model.specs.Operands.{width_of}
 use Rattle.x86_model.specs.Successors.{is_memory}
 use Rattle.lift_parts.specs.Lifted.{Stays, once}
 use Rattle.lift_parts.specs.Parts.{reg, address_word, reads, pair_reads, with_low_word, with_second_word, set_part, writes, pushes}
+use Rattle.lift_parts.proofs.Steady.{IsDone, allowing_done, answered_done, then_done, trap_done}
 use Rattle.lift_alu.proofs.Shapes.{flow_word}
 use Rattle.lift.proofs.Sound.{IsSound, num_sound, reg_sound, bin_sound, shift_sound, and_mask_sound, deeper_sound, address_sound, high_register}
 
 -- ---- statements
-
--- what is done isn't stuck
-abbrev pub IsDone : Doing → Type 0
-IsDone (Next w) = Unit {0}
-IsDone (Halt e) = Unit {0}
-IsDone Jam = ⊥
 
 -- Statements keep the rule of flows, are stuck in no world, and have so many stores and calls.
 pub record AreSteady (stored called : ℕ) (ss : List Stmt) : Type 0 where
@@ -56,11 +50,6 @@ pub record AreSteady (stored called : ℕ) (ss : List Stmt) : Type 0 where
 having_done : (x : Option ℕ) (k : ℕ → Doing) → IsSome x → ((y : ℕ) → IsDone (k y)) → IsDone (having x k)
 having_done None k h g = absurd cc
 having_done (Some y) k h g = g y
-
-then_done : (d : Doing) (k : World → Doing) → IsDone d → ((w : World) → IsDone (k w)) → IsDone (then_do d k)
-then_done (Next w) k h g = g w
-then_done (Halt e) k h g = tt
-then_done Jam k h g = h
 
 both_hold : (p q : Bool) → IsTrue p → IsTrue q → IsTrue (p && q)
 both_hold true q h k = k
@@ -91,33 +80,24 @@ pub load_steady : (n : Name) (width : Width) (d : ℕ) (e : CExpr) (rest : List 
     → AreSteady a b (stmt.Load n width e ∷ rest)
 load_steady n width d e rest a b t l h r =
     more_steady (stmt.Load n width e) rest a b 0 0 a b (both_hold (is_flow_target n) (is_flow_word e) t (flow_word d e l h.within))
-    (λ w. having_done (word_of e w.names) (λ at. loading n width at w) (h.gives w.names) (λ x. tt)) refl refl (omega arith) (omega arith) r
+    (λ w. having_done (word_of e w.names) (λ at. loading n width at w) (h.gives w.names) (λ at. allowing_done (first_bad w.pages.read at (bytes_of width)) w _ tt)) refl refl (omega arith) (omega arith) r
 
 pub store_steady : (width : Width) (d k : ℕ) (e f : CExpr) (rest : List Stmt) (a b : ℕ) → d ≤ 64 → k ≤ 64 → IsSound d e → IsSound k f → AreSteady a b rest
     → AreSteady (1 + a) b (stmt.Store width e f ∷ rest)
 store_steady width d k e f rest a b l m h g r =
     more_steady (stmt.Store width e f) rest a b 1 0 (1 + a) b (both_hold (is_flow_word e) (is_flow_word f) (flow_word d e l h.within) (flow_word k f m g.within))
     (λ w. having_done (word_of e w.names) (λ at. having (word_of f w.names) (λ x. storing width at x w)) (h.gives w.names)
-    (λ at. having_done (word_of f w.names) (λ x. storing width at x w) (g.gives w.names) (λ x. tt))) refl refl refl (omega arith) r
-
--- a call is done
-answered_done : (left : List Answer) (calls : List Call) (w : World) → IsDone (answered_by left calls w)
-answered_done [] calls w = tt
-answered_done (x ∷ rest) calls w = tt
+    (λ at. having_done (word_of f w.names) (λ x. storing width at x w) (g.gives w.names) (λ x. allowing_done (first_bad w.pages.write at (bytes_of width)) w _ tt))) refl refl refl (omega arith) r
 
 pub ext_steady : (d : ℕ) (e : CExpr) (rest : List Stmt) (a b : ℕ) → d ≤ 64 → IsSound d e → AreSteady a b rest → AreSteady a (1 + b) (stmt.Ext e ∷ rest)
 ext_steady d e rest a b l h r =
     more_steady (stmt.Ext e) rest a b 0 1 a (1 + b) (flow_word d e l h.within)
     (λ w. having_done (word_of e w.names) (λ x. calling x w) (h.gives w.names) (λ x. answered_done w.left _ w)) refl refl (omega arith) refl r
 
-trap_done : (b : Bool) (vector : ℕ) (w : World) → IsDone (cond b (Next w) (Halt (outcome.Faulted vector w.mem w.calls)))
-trap_done true vector w = tt
-trap_done false vector w = tt
-
 pub trap_steady : (vector d : ℕ) (e : CExpr) (rest : List Stmt) (a b : ℕ) → is_word vector ≡ true → d ≤ 64 → IsSound d e → AreSteady a b rest → AreSteady a b (stmt.Trap vector e ∷ rest)
 trap_steady vector d e rest a b t l h r =
     more_steady (stmt.Trap vector e) rest a b 0 0 a b (both_hold (is_word vector) (is_flow_word e) t (flow_word d e l h.within))
-    (λ w. having_done (word_of e w.names) (λ x. trapping vector x w) (h.gives w.names) (λ x. trap_done (nat_eq x 0) vector w)) refl refl (omega arith) (omega arith) r
+    (λ w. having_done (word_of e w.names) (λ x. trapping vector x w) (h.gives w.names) (λ x. trap_done (nat_eq x 0) w _)) refl refl (omega arith) (omega arith) r
 
 -- ---- reads
 
