@@ -33,6 +33,7 @@ use Rattle.micro_ir.specs.World.{IsWorld}
 use Rattle.lift_parts.specs.Stands.{Stands, state_in}
 use Rattle.lift_parts.specs.Lifted.{block_count, through, Matches, Stays}
 use Rattle.flow_pieces.specs.declared.piece.FlowPiece.{FlowPiece}
+use Rattle.window_blocks.proofs.Straight.{state_is}
 use Rattle.flow_pieces.specs.Covered.{Follows, IsCovered}
 use Rattle.range_flow.specs.Pieces as pieces
 use Rattle.range_flow.specs.Pieces.{IsInstructionPiece, IsPieceOf, IsLeaveTo, leave_block}
@@ -76,20 +77,6 @@ module _ (sc : Scene) where
   }
 
 -- ---- the piece of an instruction
-
-same_state : (s : State) (r : Regs) (fs gs : ℕ) (mem : Mem) (left : List Answer) (calls : List Call) → s.regs ≡ r → s.fs ≡ fs → s.gs ≡ gs → s.mem ≡ mem → s.left ≡ left → s.calls ≡ calls
-    → ◌≡◌ {A = State} (record { regs = r; flags = s.flags; fs = fs; gs = gs; mem = mem; left = left; calls = calls }) s
-same_state s r fs gs mem left calls a b c d e f =
-    ap (λ x. record { regs = x; flags = s.flags; fs = fs; gs = gs; mem = mem; left = left; calls = calls }) (sym a)
-    ∙ ap (λ x. record { regs = s.regs; flags = s.flags; fs = x; gs = gs; mem = mem; left = left; calls = calls }) (sym b)
-    ∙ ap (λ x. record { regs = s.regs; flags = s.flags; fs = s.fs; gs = x; mem = mem; left = left; calls = calls }) (sym c)
-    ∙ ap (λ x. record { regs = s.regs; flags = s.flags; fs = s.fs; gs = s.gs; mem = x; left = left; calls = calls }) (sym d)
-    ∙ ap (λ x. record { regs = s.regs; flags = s.flags; fs = s.fs; gs = s.gs; mem = s.mem; left = x; calls = calls }) (sym e)
-    ∙ ap (λ x. record { regs = s.regs; flags = s.flags; fs = s.fs; gs = s.gs; mem = s.mem; left = s.left; calls = x }) (sym f)
-
--- the state that a world stands for is read off it
-state_is : (s : State) (w : World) → Stands s w → state_in w s.flags ≡ s
-state_is s w h = same_state s (regs_in w.names) (w.names name.Fs) (w.names name.Gs) w.mem w.left w.calls h.regs h.fs h.gs h.mem h.left h.calls
 
 one_or_two : (b : Bool) → 0 < (if b then 2 else 1)
 one_or_two true = omega arith

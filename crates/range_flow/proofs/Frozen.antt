@@ -1,7 +1,7 @@
 -- A step of the machine that doesn't stray keeps the frozen bytes.
-use Rattle.std.proofs.Common.{◌≡◌, inl, inr, ℕ, zero, suc, ◌+◌, ◌%◌, ◌^◌, Bool, true, false, cond, List, [], ◌∷◌, ◌++◌, Option, Some, None, refl, sym, ◌∙◌, subst}
-use Rattle.std.specs.Prelude.{IsSome}
-use Rattle.std.proofs.lemmas.Bool.{cases_eq, both_ways}
+use Rattle.std.proofs.Common.{◌≡◌, inl, inr, ℕ, zero, suc, ◌+◌, ◌%◌, ◌^◌, Bool, true, false, cond, List, [], ◌∷◌, ◌++◌, Option, Some, None, refl, sym, ap, ◌∙◌, subst}
+use Rattle.std.specs.Prelude.{IsSome, is_none, ◌&&◌, ◌||◌}
+use Rattle.std.proofs.lemmas.Bool.{and_from, cases_eq, both_ways, or_parts}
 use Rattle.elf_image.specs.declared.image.Segment.{Segment}
 use Rattle.elf_image.specs.Range.{is_inside}
 use Rattle.dream_words.specs.declared.outcome.Answer.{Answer}
@@ -11,12 +11,14 @@ use Rattle.x86_inst.specs.declared.Inst.{Inst}
 use Rattle.x86_model.specs.declared.effect.Go.{Go}
 use Rattle.x86_model.specs.declared.effect.Go.TheVariants as go
 use Rattle.x86_model.specs.Machine.{Onward, At, Finished, Strays, Blank, State, Ending, Returned}
-use Rattle.x86_model.specs.Leads.{call_of, answered_or, leads, stored, step_does, effect_in}
+use Rattle.x86_model.specs.Leads.{after, allowed, call_of, answered_or, leads, stored, effect_in, instruction_does, refused_read, refused_store}
 use Rattle.machine.specs.Steps.{judged, go_on, steps}
-use Rattle.machine.specs.Run.{Scene, answer_breaks, strays, act, acts, step_at}
-use Rattle.machine.specs.Laws.{Breaks, AnswerBreaks, GoStrays}
+use Rattle.machine.specs.Code.{is_broken}
+use Rattle.machine.specs.Run.{Scene, answer_breaks, goes_middle, is_allowed, reads_allowed, returns_elsewhere, strays, act, acts, step_at, takes_broken}
+use Rattle.x86_model.specs.Undefined.{is_stray, reads_undefined}
+use Rattle.machine.specs.Laws.{Breaks, AnswerBreaks, CallsTo}
 use Rattle.machine.specs.Laws as laws
-use Rattle.machine.proofs.Straying.{straying_is_exact}
+use Rattle.machine.proofs.Straying.{broken}
 use Rattle.flow_pieces.specs.Covered.{HasFrozen}
 
 kept_frozen : (m : List Segment) (s : ℕ) (old new : Mem) → (Breaks m s old new → ⊥) → HasFrozen m old → HasFrozen m new
@@ -39,30 +41,59 @@ module _ (sc : Scene) where
   leave_never u c calls [] e = cc
   leave_never u c calls (x ∷ rest) e = cc
 
+  -- where a call takes its answer, that breaks nothing
+  abbrev Unbroken : State → Go → Type 0
+  Unbroken m g = (a : ℕ) → CallsTo a g → AnswerBreaks sc m.left m.mem → ⊥
+
   -- n is the state m after the effect's own changes
-  leads_kept : (g : Go) (i : Inst) (m n u : State) (at next c : ℕ) → n.left ≡ m.left → HasFrozen sc.image m.mem → HasFrozen sc.image n.mem → (GoStrays sc i m g → ⊥) → leads g at next n ≡ At c u → HasFrozen sc.image u.mem
-  leads_kept go.Next i m n u at next c l f g s e = at_mem next c n u g e
-  leads_kept go.Again i m n u at next c l f g s e = at_mem at c n u g e
-  leads_kept (go.To a) i m n u at next c l f g s e = at_mem a c n u g e
-  leads_kept (go.CallTo a) i m n u at next c l f g s e =
-      call_kept n u m.mem next c (n.calls ++ call_of a n ∷ []) n.left f (λ b. s (laws.call a (inl (subst (λ x. AnswerBreaks sc x m.mem) l b)))) e
-  leads_kept (go.LeaveTo a) i m n u at next c l f g s e = absurd (leave_never u c (n.calls ++ call_of a n ∷ []) n.left e)
-  leads_kept go.Return i m n u at next c l f g s e = absurd (let z : ⊥ = cc in z)
-  leads_kept (go.Fault v) i m n u at next c l f g s e = absurd (let z : ⊥ = cc in z)
-  leads_kept go.Stray i m n u at next c l f g s e = absurd (let z : ⊥ = cc in z)
+  leads_kept : (g : Go) (m n u : State) (at next c : ℕ) → n.left ≡ m.left → HasFrozen sc.image m.mem → HasFrozen sc.image n.mem → Unbroken m g → leads g at next n ≡ At c u → HasFrozen sc.image u.mem
+  leads_kept go.Next m n u at next c l f g s e = at_mem next c n u g e
+  leads_kept go.Again m n u at next c l f g s e = at_mem at c n u g e
+  leads_kept (go.To a) m n u at next c l f g s e = at_mem a c n u g e
+  leads_kept (go.CallTo a) m n u at next c l f g s e =
+      call_kept n u m.mem next c (n.calls ++ call_of a n ∷ []) n.left f (λ b. s a laws.call (subst (λ x. AnswerBreaks sc x m.mem) l b)) e
+  leads_kept (go.LeaveTo a) m n u at next c l f g s e = absurd (leave_never u c (n.calls ++ call_of a n ∷ []) n.left e)
+  leads_kept go.Return m n u at next c l f g s e = absurd (let z : ⊥ = cc in z)
+  leads_kept (go.Fault v) m n u at next c l f g s e = absurd (let z : ⊥ = cc in z)
+  leads_kept go.Stray m n u at next c l f g s e = absurd (let z : ⊥ = cc in z)
 
   unjudged : (t : Bool) (r : Onward State Ending) (c : ℕ) (u : State) → judged t r ≡ At c u → (t ≡ false) × (r ≡ At c u)
   unjudged true r c u e = absurd (let z : ⊥ = cc in z)
   unjudged false r c u e = (refl, e)
 
+  -- a step that leads on is one of which no access is refused
+  unrefused : (o : Option ℕ) (m : State) (r : Onward State Ending) (c : ℕ) (u : State) → allowed o m r ≡ At c u → (is_none o ≡ true) × (r ≡ At c u)
+  unrefused None m r c u e = (refl, e)
+  unrefused (Some bad) m r c u e = absurd (let z : ⊥ = cc in z)
+
+  -- a call that takes an answer that breaks the memory is told by the test
+  taken_broken : (m : State) (g : Go) (a : ℕ) → CallsTo a g → AnswerBreaks sc m.left m.mem → takes_broken sc m g ≡ true
+  taken_broken m _ a laws.call b = answer_broken m.left b
+    where
+      answer_broken : (left : List Answer) → AnswerBreaks sc left m.mem → answer_breaks sc left m.mem ≡ true
+      answer_broken [] b = absurd b
+      answer_broken (x ∷ rest) b = broken sc.image sc.slot m.mem x.mem b
+  taken_broken m _ a laws.leave b = answer_broken m.left b
+    where
+      answer_broken : (left : List Answer) → AnswerBreaks sc left m.mem → answer_breaks sc left m.mem ≡ true
+      answer_broken [] b = absurd b
+      answer_broken (x ∷ rest) b = broken sc.image sc.slot m.mem x.mem b
+
   acts_kept : (i : Inst) (at next c : ℕ) (m u : State) → HasFrozen sc.image m.mem → acts sc i at next m ≡ At c u → HasFrozen sc.image u.mem
   acts_kept i at next c m u f e =
       let x = effect_in i next m in
-      let j = unjudged (strays sc i m (effect_in i next m)) (step_does (effect_in i next m) at next m) c u e in
-      let exact = straying_is_exact sc i m (effect_in i next m) in
-      let kept : HasFrozen sc.image (stored m.mem x.store) = kept_frozen sc.image sc.slot m.mem (stored m.mem x.store) (λ b. both_ways (strays sc i m (effect_in i next m)) j.0 (exact.1 (inl b))) f in
-      leads_kept x.go i m (record m { regs = x.regs; flags = x.flags; mem = stored m.mem x.store }) u at next c refl f kept
-      (λ g. both_ways (strays sc i m (effect_in i next m)) j.0 (exact.1 (inr g))) j.1
+      let j = unjudged (strays sc i m x) (instruction_does i at next m) c u e in
+      let reads = unrefused (refused_read i m) m (allowed (refused_store x m) m (leads x.go at next (after x m))) c u j.1 in
+      let store = unrefused (refused_store x m) m (leads x.go at next (after x m)) c u reads.1 in
+      let all : is_allowed i m x ≡ true = and_from (is_none (refused_read i m)) (is_none (refused_store x m)) reads.0 store.0 in
+      let breaks : Bool = is_broken sc.image sc.slot m.mem (stored m.mem x.store) in
+      let first = or_parts (is_allowed i m x && (breaks || takes_broken sc m x.go))
+      (returns_elsewhere sc m x.go || (reads_undefined i m.flags || (reads_allowed i m && (is_stray x.go || goes_middle sc i x.go)))) j.0 in
+      let kept_both : (breaks || takes_broken sc m x.go) ≡ false = ap (λ t. t && (breaks || takes_broken sc m x.go)) (sym all) ∙ first.0 in
+      let both = or_parts breaks (takes_broken sc m x.go) kept_both in
+      let kept : HasFrozen sc.image (stored m.mem x.store) =
+      kept_frozen sc.image sc.slot m.mem (stored m.mem x.store) (λ b. both_ways breaks both.0 (broken sc.image sc.slot m.mem (stored m.mem x.store) b)) f in
+      leads_kept x.go m (after x m) u at next c refl f kept (λ a g b. both_ways (takes_broken sc m x.go) both.1 (taken_broken m x.go a g b)) store.1
 
   act_kept : (o : Option (Inst × ℕ)) (at c : ℕ) (m u : State) → HasFrozen sc.image m.mem → act sc at m o ≡ At c u → HasFrozen sc.image u.mem
   act_kept None at c m u f e = absurd (let z : ⊥ = cc in z)

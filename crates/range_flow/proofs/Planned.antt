@@ -216,6 +216,7 @@ start_follows m start answers s a = record {
     fs = refl;
     gs = refl;
     mem = refl;
+    pages = refl;
     left = refl;
     calls = refl;
   };

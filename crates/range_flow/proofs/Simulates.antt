@@ -25,7 +25,7 @@ use Rattle.micro_ir.proofs.More.{more_blocks, more_from}
 
 pub ending_ends : (e : Ending) → IsEnded (ending_outcome e)
 ending_ends (Returned r m calls) = tt
-ending_ends (Faulted v m calls) = tt
+ending_ends (Faulted v at m calls) = tt
 ending_ends (Asking calls) = tt
 
 front_of : (cs ds : List Call) → Begins cs ds → AreFront cs ds
@@ -33,7 +33,7 @@ front_of cs ds h = subst (λ l. AreFront cs l) (sym h.1) (AreFront-append cs h.0
 
 shows_itself : (o : Outcome) → OutcomeShows (calls_of o) o
 shows_itself (outcome.Returned r m calls) = begins_self calls
-shows_itself (outcome.Faulted v m calls) = begins_self calls
+shows_itself (outcome.Faulted v at m calls) = begins_self calls
 shows_itself (outcome.Asking calls) = begins_self calls
 shows_itself (outcome.Going calls) = begins_self calls
 shows_itself outcome.Strayed = tt
@@ -42,7 +42,7 @@ shows_itself outcome.Stuck = tt
 
 ending_shows : (cs : List Call) (e : Ending) → OutcomeShows cs (ending_outcome e) → AreFront cs (calls_of (ending_outcome e))
 ending_shows cs (Returned r m calls) h = front_of cs calls h
-ending_shows cs (Faulted v m calls) h = front_of cs calls h
+ending_shows cs (Faulted v at m calls) h = front_of cs calls h
 ending_shows cs (Asking calls) h = front_of cs calls h
 
 module _ (step : ℕ → State → Onward State Ending) (blocks : List Block) (Known : ℕ → Type 0) (node_at : ℕ → ℕ) (Rel : State → World → Type 0) where
