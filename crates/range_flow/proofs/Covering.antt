@@ -4,13 +4,10 @@ use Rattle.std.specs.Prelude.{slice_get}
 use Rattle.elf_image.specs.declared.image.Segment.{Segment}
 use Rattle.elf_image.specs.declared.range.Range.{Range}
 use Rattle.elf_image.specs.Range.{is_inside}
-use Rattle.dream_words.specs.declared.machine.Regs.{Regs}
-use Rattle.dream_words.specs.declared.machine.Name.TheVariants as name
 use Rattle.dream_words.specs.declared.outcome.Start.{Start}
 use Rattle.dream_words.specs.declared.outcome.Answer.{Answer}
 use Rattle.dream_words.specs.declared.outcome.Call.{Call}
 use Rattle.dream_words.specs.declared.outcome.Outcome.TheVariants as outcome
-use Rattle.dream_words.specs.Memory.{Mem}
 use Rattle.x86_inst.specs.declared.Inst.{Inst}
 use Rattle.x86_inst.specs.declared.Inst.TheVariants as i
 use Rattle.x86_model.specs.declared.effect.Go.TheVariants as go
@@ -30,7 +27,7 @@ use Rattle.c_words.proofs.Layers.{word_layer}
 use Rattle.micro_ir.specs.declared.flow.Block.{Block}
 use Rattle.micro_ir.specs.Run.{Arrive, enter, left_by}
 use Rattle.micro_ir.specs.World.{IsWorld}
-use Rattle.lift_parts.specs.Stands.{Stands, state_in}
+use Rattle.lift_parts.specs.Stands.{Stands}
 use Rattle.lift_parts.specs.Lifted.{block_count, through, Matches, Stays}
 use Rattle.flow_pieces.specs.declared.piece.FlowPiece.{FlowPiece}
 use Rattle.window_blocks.proofs.Straight.{state_is}

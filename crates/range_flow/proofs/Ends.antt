@@ -7,7 +7,9 @@ use Rattle.dream_words.specs.declared.outcome.Outcome.{Outcome}
 use Rattle.dream_words.specs.Same.{IsEnded}
 use Rattle.run_parts.specs.Steps.{Next, Halt, Jam, To, End, Nowhere, having, then_do, arrive}
 use Rattle.run_parts.specs.World.{World}
-use Rattle.run_parts.specs.Effects.{Doing, answered_by}
+use Rattle.dream_words.specs.Memory.{load, store, bytes_of}
+use Rattle.dream_words.specs.Pages.{first_bad}
+use Rattle.run_parts.specs.Effects.{Doing, allowing, answered_by, loading, set_word, storing}
 use Rattle.c_syntax.specs.declared.syntax.CExpr.{CExpr}
 use Rattle.c_syntax.specs.Run.{word_in, holds, does_ext}
 use Rattle.micro_ir.specs.declared.flow.Case.{Case}
@@ -41,13 +43,19 @@ trap_well : (b : Bool) (w : World) (o : Outcome) → IsEnded o → HaltsWell (if
 trap_well true w o h = tt
 trap_well false w o h = h
 
+access_well : (bad : Option ℕ) (w : World) (d : Doing) → HaltsWell d → HaltsWell (allowing bad w d)
+access_well None w d h = h
+access_well (Some at) w d h = tt
+
 ext_well : (e : CExpr) (w : World) → HaltsWell (does_ext e w)
 ext_well e w = having_well (word_in e w) _ (λ x. answered_well w.left _ w)
 
 stmt_well : (s : Stmt) (w : World) → HaltsWell (stmt_does s w)
 stmt_well (stmt.Set n e) w = having_well (word_in e w) _ (λ x. tt)
-stmt_well (stmt.Load n width e) w = having_well (word_in e w) _ (λ x. tt)
-stmt_well (stmt.Store width e f) w = having_well (word_in e w) _ (λ at. having_well (word_in f w) _ (λ x. tt))
+stmt_well (stmt.Load n width e) w = having_well (word_in e w) (λ at. loading n width at w) (λ at. access_well (first_bad w.pages.read at (bytes_of width)) w (Next (set_word n (load w.mem at (bytes_of width)) w)) tt)
+stmt_well (stmt.Store width e f) w =
+    having_well (word_in e w) (λ at. having (word_in f w) (λ x. storing width at x w)) (λ at. having_well (word_in f w) (λ x. storing width at x w)
+    (λ x. access_well (first_bad w.pages.write at (bytes_of width)) w (Next (record w { mem = store w.mem at (bytes_of width) x })) tt))
 stmt_well (stmt.Ext e) w = ext_well e w
 stmt_well (stmt.Trap vector e) w = having_well (word_in e w) _ (λ x. trap_well (nat_eq x 0) w _ tt)
 

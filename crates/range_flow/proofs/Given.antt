@@ -1,8 +1,7 @@
 -- The flow of a range may be given.
-use Rattle.std.proofs.Common.{◌≡◌, ◌⊎◌, inl, inr, ℕ, ◌+◌, ◌*◌, ◌%◌, ◌^◌, ◌<◌, ◌≤◌, true, false, nat_eq, List, [], ◌∷◌, ◌++◌, length, Some, refl, sym, ap, ◌∙◌, subst, arith, length-append}
+use Rattle.std.proofs.Common.{◌≡◌, inl, inr, ℕ, ◌*◌, ◌^◌, ◌<◌, ◌≤◌, nat_eq, List, [], ◌∷◌, ◌++◌, length, Some, refl, sym, ap, ◌∙◌, subst, arith, length-append}
 use Rattle.std.specs.Prelude.{IsTrue, slice_get, All, Contains}
 use Rattle.std.specs.List.{IsDistinct}
-use Rattle.std.proofs.lemmas.Bool.{both_ways}
 use Rattle.std.proofs.lemmas.Bool.Decides.{Decides-eqb}
 use Rattle.std.proofs.lemmas.Cmp.{nat_eq_equiv}
 use Rattle.std.proofs.lemmas.List.{length-map}
@@ -10,18 +9,17 @@ use Rattle.std.proofs.lemmas.List.Elements.{All-contains, Contains-append_left, 
 use Rattle.std.proofs.lemmas.Map.Made.{length-le_from_is_member, is_member-Decides}
 use Rattle.elf_image.specs.declared.image.Segment.{Segment}
 use Rattle.elf_image.specs.declared.range.Range.{Range}
-use Rattle.elf_image.specs.Range.{is_inside}
 use Rattle.micro_ir.specs.declared.flow.Flow.{Flow}
 use Rattle.micro_ir.specs.Rule.{are_flow_blocks, nodes_in}
 use Rattle.flow_pieces.specs.declared.piece.FlowPiece.{FlowPiece}
 use Rattle.range_flow.specs.Pieces.{IsPieceOf, IsLeaveTo, addresses_of, first_node, flow_blocks}
 use Rattle.range_flow.specs.Flow.{AreCovering, IsFlowOf}
 use Rattle.range_flow.specs.Laws.{FlowIsGiven}
-use Rattle.range_flow.proofs.Members.{contains_cases, contains_got, contains_here, contains_later, contains_mapped, none_in}
+use Rattle.range_flow.proofs.Members.{contains_cases, contains_got, contains_here, contains_later, none_in}
 use Rattle.range_flow.proofs.Numbering.{piece_found, piece_member}
 use Rattle.range_flow.proofs.Standing.{IsSmall, small, begins, rule}
 use Rattle.range_flow.proofs.Joined.{NodesBelow, block_total, node_total, block_total-append, node_total-append, count_blocks, count_nodes, first_within, blocks_below, rule_joined, leave_rule}
-use Rattle.range_flow.proofs.RangePlan.{inner_place, has_place, all_closed}
+use Rattle.range_flow.proofs.RangePlan.{has_place, all_closed}
 
 -- the successors of all pieces
 abbrev all_successors : List FlowPiece → List ℕ
