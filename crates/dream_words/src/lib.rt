@@ -8,8 +8,6 @@ mod machine;
 mod memory;
 mod outcome;
 mod signed;
-#[cfg(test)]
-mod tests;
 mod tree;
 mod words;
 

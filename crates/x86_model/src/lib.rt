@@ -15,8 +15,6 @@ mod products;
 mod rows;
 mod shifts;
 mod strings;
-#[cfg(test)]
-mod tests;
 
 pub use effect::{Access, Effect, Go, Reads, Step, Stored};
 pub use laws::{conditions_are_opposite, parts_are_apart, product_overflows_by_halves};

@@ -1,47 +1,17 @@
-//! Worked windows, their bytes written out by hand from the opcode map.
+//! Windows, their bytes written out by hand from the opcode map.
 
-use crate::{TableWindow, inst_at, window};
-use elf_image::{Image, ImageFault, Range};
-use std::alloc::{AllocError, Global};
+use crate::images::{ENTRY, TABLE, image};
+use elf_image::Range;
+use jump_tables::{TableWindow, inst_at, window};
+use std::alloc::Global;
 use std::test::Fail;
 
-const ENTRY: u32 = 0x0804_8100;
-
-const TABLE: u32 = 0x0804_9000;
-
-/// An image of code at the entry, in a segment that can't be written, and of a table of three words in one of its own.
-fn image(alloc: Global, code: &[u8], table_flags: u32) -> Result<Image, Fail> {
-    let size = u32::try_from(0x100 + code.len())?;
-    let header = [0x0003_0002, 1, ENTRY, 52, 0, 0, 0x0020_0034, 2, 0];
-    let segments = [
-        [1, 0, 0x0804_8000, 0x0804_8000, size, size, 5, 4096],
-        [1, 0x1000, TABLE, TABLE, 12, 12, table_flags, 4096],
-    ];
-    let mut bytes = Vec::from_slice(alloc, b"\x7fELF\x01\x01\x01\0\0\0\0\0\0\0\0\0")?;
-    for word in header {
-        bytes.extend_from_slice(&u32::to_le_bytes(word))?;
-    }
-    for segment in segments {
-        for word in segment {
-            bytes.extend_from_slice(&u32::to_le_bytes(word))?;
-        }
-    }
-    bytes.resize(0x100, 0)?;
-    bytes.extend_from_slice(code)?;
-    bytes.resize(0x1000, 0)?;
-    for target in [ENTRY + 12, ENTRY + 14, ENTRY] {
-        bytes.extend_from_slice(&u32::to_le_bytes(target))?;
-    }
-    match Image::read(alloc, &bytes) {
-        Ok(image) => Ok(image),
-        Err(ImageFault::Memory) => Err(AllocError.into()),
-        Err(ImageFault::Elf(_)) => Err("no image".into()),
-    }
-}
+// The words of the table.
+const TARGETS: [u32; 3] = [ENTRY + 12, ENTRY + 14, ENTRY];
 
 /// The default, the jump and the count of the window at the entry, whose table is at its place.
 fn told(alloc: Global, code: &[u8], table_flags: u32) -> Result<Option<(u32, u32, u32)>, Fail> {
-    let image = image(alloc, code, table_flags)?;
+    let image = image(alloc, code, 0, &TARGETS, table_flags)?;
     let range = Range::new(ENTRY, u32::try_from(code.len())?);
     Ok(match window(&image, &range, ENTRY) {
         Some(w) if w.table == TABLE => Some((w.default, w.jump, w.count)),
@@ -109,7 +79,7 @@ fn windows_are_found(rt: HostRuntime) -> Result<(), Fail> {
 
 #[test]
 fn entries_are_targets(rt: HostRuntime) -> Result<(), Fail> {
-    let image = image(rt.alloc(), b"\xc3", 4)?;
+    let image = image(rt.alloc(), b"\xc3", 0, &TARGETS, 4)?;
     let w = TableWindow {
         default: ENTRY,
         table: TABLE,

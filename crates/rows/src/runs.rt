@@ -1,36 +1,13 @@
-//! Worked runs, their outcomes worked out by hand from the meaning of the instructions.
+//! Runs of the machine, their outcomes worked out by hand from the meaning of the instructions.
 
-use crate::{run, start_memory};
+use crate::images::{ENTRY, image};
 use dream_words::{Answer, Bit, Flags, Memory, Outcome, Regs, Start, Width};
-use elf_image::{Image, ImageFault, Range};
+use elf_image::Range;
+use machine::{run, start_memory};
 use std::alloc::{AllocError, Global};
 use std::test::Fail;
 
-const ENTRY: u32 = 0x0804_8100;
-
 const ESP: u32 = 0xbfff_0000;
-
-/// An image of one segment at 0x08048000 that can't be written, with code at the entry.
-fn image(alloc: Global, code: &[u8]) -> Result<Image, Fail> {
-    let size = u32::try_from(0x100 + code.len())?;
-    let memory_size = u32::try_from(0x110 + code.len())?;
-    let header = [0x0003_0002, 1, ENTRY, 52, 0, 0, 0x0020_0034, 1, 0];
-    let segment = [1, 0, 0x0804_8000, 0x0804_8000, size, memory_size, 5, 4096];
-    let mut bytes = Vec::from_slice(alloc, b"\x7fELF\x01\x01\x01\0\0\0\0\0\0\0\0\0")?;
-    for word in header {
-        bytes.extend_from_slice(&u32::to_le_bytes(word))?;
-    }
-    for word in segment {
-        bytes.extend_from_slice(&u32::to_le_bytes(word))?;
-    }
-    bytes.resize(0x100, 0)?;
-    bytes.extend_from_slice(code)?;
-    match Image::read(alloc, &bytes) {
-        Ok(image) => Ok(image),
-        Err(ImageFault::Memory) => Err(AllocError.into()),
-        Err(ImageFault::Elf(_)) => Err("no image".into()),
-    }
-}
 
 fn regs(eax: u32, ecx: u32, edi: u32) -> Regs {
     Regs {
@@ -63,7 +40,7 @@ fn run_code(
     answers: &[Answer],
     steps: u64,
 ) -> Result<Outcome, Fail> {
-    let image = image(alloc, code)?;
+    let image = image(alloc, code, 16, &[], 0)?;
     let start = Start {
         regs: regs(7, 3, 0x1000),
         flags: flags(),
@@ -166,7 +143,7 @@ fn answer(alloc: Global, mem: Memory) -> Result<Vec<Answer>, AllocError> {
 fn an_answer_keeps_what_must_stay(rt: HostRuntime) -> Result<(), Fail> {
     let alloc = rt.alloc();
     let code = b"\xe8\xfb\xff\xff\xff\xc3";
-    let kept = start_memory(alloc, &image(alloc, code)?)?;
+    let kept = start_memory(alloc, &image(alloc, code, 16, &[], 0)?)?;
     let answers = answer(alloc, kept)?;
     let outcome = run_code(alloc, code, 6, &answers, 2)?;
     assert_eq!(rt; told(&outcome), ("returned", 9, 1));

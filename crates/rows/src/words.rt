@@ -1,6 +1,9 @@
-//! Worked values.
+//! Words, memories and registers.
 
-use crate::*;
+use dream_words::{
+    Memory, Regs, Width, borrow, carry_add, div_s, div_u, highest_one, less_signed, low,
+    lowest_one, mul_hi_s, mul_hi_u, over_add, over_sub, parity, shifted_signed, sign, sx,
+};
 use std::test::Fail;
 
 #[test]

@@ -1,8 +1,8 @@
-//! Worked steps.
+//! Steps of instructions.
 
-use crate::*;
 use dream_words::{Bit, Flags, Regs, Width};
 use x86_inst::{AluOp, Count, Inst, Operand, Rep, Seg, ShiftOp, Size, StrOp};
+use x86_model::{Access, Effect, Go, Reads, Stored, apply, wants};
 
 const EAX: Operand = Operand::Reg(0);
 

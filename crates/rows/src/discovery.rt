@@ -1,54 +1,19 @@
-//! Worked code: what is reached of it, and the places that are named.
+//! What of a range is reached, and the places that are named.
 
-use crate::{Cause, FlowFault, Found, Place, discover};
-use elf_image::{Image, Range};
+use crate::images::{ENTRY, image};
+use elf_image::Range;
+use flow_graph::{Cause, FlowFault, Found, Place, discover};
 use graph_order::{Graph, NodeId};
 use std::alloc::{AllocError, Global};
 use std::test::Fail;
 
-const BASE: u32 = 0x0804_8100;
-
-const TABLE: u32 = 0x0804_9000;
-
-// A program header: so many bytes of the file from a place on are loaded at an address.
-fn segment(place: u32, address: u32, size: u32, flags: u32) -> [u32; 8] {
-    [1, place, address, address, size, size, flags, 4096]
-}
-
-// A header, program headers from place 52 on, zeros up to place 0x100 and the code there, which is loaded at BASE.
-fn file(alloc: Global, code: &[u8], more: &[[u32; 8]]) -> Result<Vec<u8>, Fail> {
-    let size = u32::try_from(0x100 + code.len())?;
-    let count = u32::try_from(1 + more.len())?;
-    let header = [0x0003_0002, 1, BASE, 52, 0, 0, 0x0020_0034, count, 0];
-    let mut bytes = Vec::from_slice(alloc, b"\x7fELF\x01\x01\x01\0\0\0\0\0\0\0\0\0")?;
-    for word in header {
-        bytes.extend_from_slice(&u32::to_le_bytes(word))?;
-    }
-    for word in segment(0, 0x0804_8000, size, 5) {
-        bytes.extend_from_slice(&u32::to_le_bytes(word))?;
-    }
-    for word in more.iter().flatten() {
-        bytes.extend_from_slice(&u32::to_le_bytes(*word))?;
-    }
-    bytes.resize(0x100, 0)?;
-    bytes.extend_from_slice(code)?;
-    Ok(bytes)
-}
-
-fn found_in(alloc: Global, bytes: &[u8], size: u32) -> Result<Result<Found, FlowFault>, Fail> {
-    match Image::read(alloc, bytes) {
-        Ok(m) => Ok(discover(alloc, &m, &Range::new(BASE, size))),
-        Err(_) => Err(Fail::from(AllocError)),
-    }
-}
-
 fn found(alloc: Global, code: &[u8], size: u32) -> Result<Result<Found, FlowFault>, Fail> {
-    let bytes = file(alloc, code, &[])?;
-    found_in(alloc, &bytes, size)
+    let m = image(alloc, code, 0, &[], 0)?;
+    Ok(discover(alloc, &m, &Range::new(ENTRY, size)))
 }
 
-// EAX is compared with 2, a branch with the opcode leads past a jump through the table at TABLE, and there EAX is
-// cleared before the return.
+// EAX is compared with 2, a branch with the opcode leads past a jump through the table, and there EAX is cleared before the
+// return.
 fn found_by_table(
     alloc: Global,
     branch: u8,
@@ -58,13 +23,8 @@ fn found_by_table(
     let code = [
         0x83, 0xf8, 2, branch, 7, 0xff, 0x24, 0x85, 0, 0x90, 4, 8, 0x31, 0xc0, 0xc3,
     ];
-    let size = u32::try_from(4 * table.len())?;
-    let mut bytes = file(alloc, &code, &[segment(0x1000, TABLE, size, flags)])?;
-    bytes.resize(0x1000, 0)?;
-    for word in table {
-        bytes.extend_from_slice(&u32::to_le_bytes(*word))?;
-    }
-    found_in(alloc, &bytes, 15)
+    let m = image(alloc, &code, 0, table, flags)?;
+    Ok(discover(alloc, &m, &Range::new(ENTRY, 15)))
 }
 
 // The edges of a graph, in order.
@@ -111,7 +71,7 @@ fn discovers_in_order(rt: HostRuntime) -> Result<(), Fail> {
         };
         let mut wanted = Vec::new(alloc);
         for place in places {
-            wanted.push(BASE.wrapping_add(*place))?;
+            wanted.push(ENTRY.wrapping_add(*place))?;
         }
         assert_eq!(rt; answer.places.as_slice(), wanted.as_slice());
         assert!(rt; edges(alloc, &answer.graph)?.as_slice() == graph);
@@ -140,7 +100,7 @@ fn names_the_place(rt: HostRuntime) -> Result<(), Fail> {
         ),
     ];
     for (code, size, at, cause, number) in rows {
-        let at = BASE.wrapping_add(at);
+        let at = ENTRY.wrapping_add(at);
         let Err(fault) = found(alloc, code, size)? else {
             return Err(Fail::from(AllocError));
         };
@@ -153,7 +113,7 @@ fn names_the_place(rt: HostRuntime) -> Result<(), Fail> {
 #[test]
 fn follows_a_table(rt: HostRuntime) -> Result<(), Fail> {
     let alloc = rt.alloc();
-    let table = [BASE + 12, BASE + 14, BASE + 12];
+    let table = [ENTRY + 12, ENTRY + 14, ENTRY + 12];
     let rows: [(u8, &[u32], &[(u32, u32)]); 2] = [
         // Above: the default, and three entries.
         (0x77, &table, &[(0, 1), (0, 1), (0, 2), (0, 1), (1, 2)]),
@@ -166,7 +126,7 @@ fn follows_a_table(rt: HostRuntime) -> Result<(), Fail> {
         };
         assert_eq!(rt;
             answer.places.as_slice(),
-            [BASE, BASE + 12, BASE + 14].as_slice()
+            [ENTRY, ENTRY + 12, ENTRY + 14].as_slice()
         );
         assert!(rt; edges(alloc, &answer.graph)?.as_slice() == graph);
     }
@@ -176,7 +136,7 @@ fn follows_a_table(rt: HostRuntime) -> Result<(), Fail> {
 #[test]
 fn refuses_a_table(rt: HostRuntime) -> Result<(), Fail> {
     let alloc = rt.alloc();
-    let table = [BASE + 12, BASE + 14, BASE + 12];
+    let table = [ENTRY + 12, ENTRY + 14, ENTRY + 12];
     // A table that can be written, and one that is too short.
     let rows: [(&[u32], u32); 2] = [(&table, 6), (&table[..2], 4)];
     for (table, flags) in rows {
@@ -184,7 +144,7 @@ fn refuses_a_table(rt: HostRuntime) -> Result<(), Fail> {
             return Err(Fail::from(AllocError));
         };
         let place = Place {
-            at: BASE + 5,
+            at: ENTRY + 5,
             cause: Cause::IndirectJump,
         };
         assert!(rt; fault == FlowFault::Outside(place));

@@ -1,10 +1,6 @@
-//! Each file and stream once, with ample memory.
+//! Each file and each stream once.
 
-use crate::files::{Failed, Files};
-use crate::mem_files::{MemFile, MemFiles};
-use crate::mem_sink::MemSink;
-use crate::real::{RealFiles, RealSink};
-use crate::sink::Sink;
+use dream_outside::{Failed, Files, MemFile, MemFiles, MemSink, RealFiles, RealSink, Sink};
 use std::fs;
 use std::test::Fail;
 
