@@ -1,6 +1,6 @@
-//! Each call on one term.
+//! Each call on a term.
 
-use crate::{Lit, Term, copy, same_term, size};
+use cond_terms::{Lit, Term, copy, same_term, size};
 use sqlite_items::Boxed;
 use std::alloc::{AllocError, Global};
 use std::test::Fail;

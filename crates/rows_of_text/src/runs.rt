@@ -1,9 +1,10 @@
-//! Worked runs.
+//! Runs of functions, and the functions of `dream386.h`.
 
-use crate::run_c;
+use crate::parts::{bin, reg};
+use c_run::run_c;
 use c_syntax::*;
 use dream_words::{Answer, Bit, Flags, Memory, Name, Outcome, Regs, Start, Width};
-use sqlite_items::{Boxed, Items};
+use sqlite_items::Items;
 use std::alloc::{AllocError, Global};
 use std::test::Fail;
 
@@ -42,14 +43,6 @@ fn flags() -> Flags {
         s: Bit::Zero,
         o: Bit::Zero,
     }
-}
-
-pub(crate) fn reg(n: u8) -> CExpr {
-    CExpr::Name(Name::Reg(n))
-}
-
-pub(crate) fn bin(alloc: Global, op: CBin, a: CExpr, b: CExpr) -> Result<CExpr, AllocError> {
-    Ok(CExpr::Bin(op, Boxed::new(alloc, a)?, Boxed::new(alloc, b)?))
 }
 
 fn function(body: Vec<CStmt>) -> CFun {

@@ -1,34 +1,13 @@
-//! Worked runs of each form of statement, their outcomes worked out by hand from the C. Each begins
-//! with 7 in eax.
+//! Runs of each form of statement, their outcomes worked out by hand from the C. Each begins with 7 in eax.
 
-use crate::run_c;
-use crate::tests::{bin, change, reg, start, told};
+use crate::parts::{bin, one, reg, three, two};
+use crate::runs::{change, start, told};
+use c_run::run_c;
 use c_syntax::*;
 use dream_words::{Name, Outcome, Width};
 use sqlite_items::{Boxed, Items};
 use std::alloc::{AllocError, Global};
 use std::test::Fail;
-
-fn one<T: Drop>(alloc: Global, a: T) -> Result<Items<T>, AllocError> {
-    let mut items = Vec::new(alloc);
-    items.push(a)?;
-    Ok(Items::from_vec(items))
-}
-
-fn two<T: Drop>(alloc: Global, a: T, b: T) -> Result<Items<T>, AllocError> {
-    let mut items = Vec::new(alloc);
-    items.push(a)?;
-    items.push(b)?;
-    Ok(Items::from_vec(items))
-}
-
-fn three<T: Drop>(alloc: Global, a: T, b: T, c: T) -> Result<Items<T>, AllocError> {
-    let mut items = Vec::new(alloc);
-    items.push(a)?;
-    items.push(b)?;
-    items.push(c)?;
-    Ok(Items::from_vec(items))
-}
 
 fn set(n: u8, x: u32) -> CStmt {
     CStmt::Set(Name::Reg(n), CExpr::Num(x))

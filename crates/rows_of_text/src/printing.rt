@@ -1,6 +1,7 @@
-//! The texts of two functions, worked out by hand.
+//! The texts of functions, worked out by hand.
 
-use crate::{eight_digits, exact_len, print};
+use crate::parts::{bin, one, reg};
+use c_print::{eight_digits, exact_len, print};
 use c_syntax::*;
 use dream_words::{Name, Width};
 use sqlite_items::{Boxed, Items};
@@ -9,10 +10,6 @@ use std::test::Fail;
 
 fn num(n: u32) -> CExpr {
     CExpr::Num(n)
-}
-
-fn reg(n: u8) -> CExpr {
-    CExpr::Name(Name::Reg(n))
 }
 
 fn flag(n: u8) -> CExpr {
@@ -27,10 +24,6 @@ fn not(alloc: Global, a: CExpr) -> Result<CExpr, AllocError> {
     Ok(CExpr::Not(Boxed::new(alloc, a)?))
 }
 
-fn bin(alloc: Global, op: CBin, a: CExpr, b: CExpr) -> Result<CExpr, AllocError> {
-    Ok(CExpr::Bin(op, Boxed::new(alloc, a)?, Boxed::new(alloc, b)?))
-}
-
 fn fn1(alloc: Global, f: CFn1, a: CExpr) -> Result<CExpr, AllocError> {
     Ok(CExpr::Fn1(f, Boxed::new(alloc, a)?))
 }
@@ -43,13 +36,6 @@ fn fn2(alloc: Global, f: CFn2, a: CExpr, b: CExpr) -> Result<CExpr, AllocError> 
 fn fn3(alloc: Global, f: CFn3, low: CExpr, by: CExpr) -> Result<CExpr, AllocError> {
     let high = Boxed::new(alloc, reg(2))?;
     Ok(CExpr::Fn3(f, high, Boxed::new(alloc, low)?, Boxed::new(alloc, by)?))
-}
-
-/// A list of one.
-fn one<T: Drop>(alloc: Global, x: T) -> Result<Items<T>, AllocError> {
-    let mut items = Vec::new(alloc);
-    items.push(x)?;
-    Ok(Items::from_vec(items))
 }
 
 fn returns_five(alloc: Global) -> Result<CFun, AllocError> {

@@ -1,8 +1,8 @@
 //! Refused texts, with their places worked out by hand from the grammar, and texts at the limits. A
 //! row has what comes before the refused token, and what begins with that token.
 
-use crate::{TextFault, read};
 use c_print::print;
+use c_read::{TextFault, read};
 use std::alloc::Global;
 use std::test::Fail;
 
