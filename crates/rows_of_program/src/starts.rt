@@ -1,8 +1,9 @@
-//! Worked words, starts and lines, each worked out by hand.
+//! Words of a start, starts, and lines of outcomes, each worked out by hand.
 
-use crate::{StartWord, are_start_words, count, line, start, start_word, value};
+use crate::files::push_words;
 use dream_words::{Bit, Call, Flags, Memory, Outcome, Regs, Width};
 use elf_image::{Image, ImageFault};
+use run_lines::{StartWord, are_start_words, count, line, start, start_word, value};
 use sqlite_items::Items;
 use std::alloc::{AllocError, Global};
 use std::test::Fail;
@@ -84,12 +85,8 @@ fn image(alloc: Global) -> Result<Image, Fail> {
     let header = [0x0003_0002, 1, 0x0804_8000, 52, 0, 0, 0x0020_0034, 1, 0];
     let segment = [1, 0, 0x0804_8000, 0x0804_8000, 0x54, 0x60, 5, 4096];
     let mut bytes = Vec::from_slice(alloc, b"\x7fELF\x01\x01\x01\0\0\0\0\0\0\0\0\0")?;
-    for word in header {
-        bytes.extend_from_slice(&u32::to_le_bytes(word))?;
-    }
-    for word in segment {
-        bytes.extend_from_slice(&u32::to_le_bytes(word))?;
-    }
+    push_words(&mut bytes, &header)?;
+    push_words(&mut bytes, &segment)?;
     match Image::read(alloc, &bytes) {
         Ok(image) => Ok(image),
         Err(ImageFault::Memory) => Err(AllocError.into()),
@@ -171,6 +168,15 @@ fn calls(alloc: Global, targets: &[u32]) -> Result<Items<Call>, Fail> {
     Ok(calls)
 }
 
+/// A fault after twelve calls.
+fn faulted(alloc: Global) -> Result<Outcome, Fail> {
+    Ok(Outcome::Faulted {
+        vector: 14,
+        mem: Memory::new(alloc),
+        calls: calls(alloc, &[1; 12])?,
+    })
+}
+
 #[test]
 fn tells_outcomes(rt: HostRuntime) -> Result<(), Fail> {
     let alloc = rt.alloc();
@@ -183,11 +189,6 @@ fn tells_outcomes(rt: HostRuntime) -> Result<(), Fail> {
         mem,
         calls: calls(alloc, &none)?,
     };
-    let faulted = Outcome::Faulted {
-        vector: 14,
-        mem: Memory::new(alloc),
-        calls: calls(alloc, &[1; 12])?,
-    };
     let asking = Outcome::Asking {
         calls: calls(alloc, &[0x0804_8100, 0x0804_9000])?,
     };
@@ -199,7 +200,7 @@ fn tells_outcomes(rt: HostRuntime) -> Result<(), Fail> {
             returned,
             "returned eax=00000006 ecx=abcdef01 edx=00000000 ebx=00000000 esp=bfff0004 ebp=00000000 esi=00000000 edi=00000000 calls=0 changed=3\n",
         ),
-        (faulted, "faulted vector=14 calls=12 changed=0\n"),
+        (faulted(alloc)?, "faulted vector=14 calls=12 changed=0\n"),
         (asking, "asking target=08049000 calls=2\n"),
         (Outcome::Strayed, "strayed\n"),
         (Outcome::Undecoded, "undecoded\n"),

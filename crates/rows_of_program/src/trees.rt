@@ -1,13 +1,15 @@
-//! Worked trees of small flows.
+//! Trees of small flows.
 
 ghost use Rattle.std.specs.Prelude.{◌≡◌, [], ◌∷◌, IfOk};
 ghost use Rattle.micro_ir.specs.Rule.{IsGiven};
 
-use crate::{plain, straight};
+use c_emit::emit;
+use c_print::print;
 use dream_words::Name;
 use graph_order::NodeId;
 use guarded::{SetTo, Tree};
 use micro_ir::{Block, End, Expr, Flow};
+use regions::{plain, straight};
 use sqlite_items::Items;
 use std::alloc::{AllocError, Global};
 use std::test::Fail;
@@ -114,5 +116,16 @@ fn small_flows(rt: HostRuntime) -> Result<(), Fail> {
     assert!(rt; ring_turns(rt.alloc())?);
     assert_eq!(rt; ring_members(rt.alloc())?, None);
     assert_eq!(rt; pair_members(rt.alloc())?, Some(2));
+    Ok(())
+}
+
+const EMPTY: &str = "#include \"dream386.h\"\n\nvoid f_08048100(void)\n{\n}\n";
+
+#[test]
+fn an_empty_tree_is_an_empty_function(rt: HostRuntime) -> Result<(), Fail> {
+    let tree = Tree::Seq(Items::new(rt.alloc()));
+    let function = emit(rt.alloc(), &tree, 0x0804_8100)?;
+    let text = print(rt.alloc(), &function)?;
+    assert_eq!(rt; text.as_slice(), EMPTY.as_bytes());
     Ok(())
 }

@@ -1,28 +1,17 @@
-//! Worked code: the flow of what is discovered of it.
+//! The flow of what is discovered of code.
 
-use crate::flow_of;
+use crate::files::elf;
 use elf_image::{Image, Range};
 use flow_graph::discover;
 use micro_ir::{Block, End, Flow};
+use range_flow::flow_of;
 use std::alloc::{AllocError, Global};
 use std::test::Fail;
 
 const BASE: u32 = 0x0804_8100;
 
-// A header, one program header at place 52, zeros up to place 0x100 and the code there, which is loaded at BASE.
 fn image(alloc: Global, code: &[u8]) -> Result<Image, Fail> {
-    let size = u32::try_from(0x100 + code.len())?;
-    let header = [0x0003_0002, 1, BASE, 52, 0, 0, 0x0020_0034, 1, 0];
-    let segment = [1, 0, 0x0804_8000, 0x0804_8000, size, size, 5, 4096];
-    let mut bytes = Vec::from_slice(alloc, b"\x7fELF\x01\x01\x01\0\0\0\0\0\0\0\0\0")?;
-    for word in header {
-        bytes.extend_from_slice(&u32::to_le_bytes(word))?;
-    }
-    for word in segment {
-        bytes.extend_from_slice(&u32::to_le_bytes(word))?;
-    }
-    bytes.resize(0x100, 0)?;
-    bytes.extend_from_slice(code)?;
+    let bytes = elf(alloc, code)?;
     match Image::read(alloc, &bytes) {
         Ok(m) => Ok(m),
         Err(_) => Err(Fail::from(AllocError)),

@@ -1,11 +1,15 @@
-//! Worked values, and worked flows.
+//! Values of words, checks of flows, and what instructions are lifted to.
 
-use crate::{Bin, Block, End, Env, Expr, Flow, eval};
+use c_words::name;
 use dream_words::{Name, Regs};
 use graph_order::NodeId;
+use lift::lift;
+use lift_alu::{lift_alu, lift_cond};
+use micro_ir::{Bin, Block, End, Env, Expr, Flow, eval};
 use sqlite_items::{Boxed, Items};
 use std::alloc::{AllocError, Global};
 use std::test::Fail;
+use x86_inst::{AluOp, Cond, Inst};
 
 fn env(alloc: Global) -> Result<Env, AllocError> {
     Ok(Env {
@@ -99,5 +103,28 @@ fn checks(rt: HostRuntime) -> Result<(), Fail> {
     ] {
         assert_eq!(rt; bad_block(rt.alloc(), entry, first, second)?, want);
     }
+    Ok(())
+}
+
+#[test]
+fn a_difference_of_bytes_with_borrow(rt: HostRuntime) {
+    let words = lift_alu::<8>(
+        rt.alloc(),
+        AluOp::Sbb,
+        name(Name::Reg(0)),
+        name(Name::Reg(1)),
+    );
+    assert!(rt; words.is_ok());
+}
+
+#[test]
+fn a_condition_of_three_flags(rt: HostRuntime) {
+    assert!(rt; lift_cond(rt.alloc(), Cond(14)).is_ok());
+}
+
+#[test]
+fn a_return_has_one_block(rt: HostRuntime) -> Result<(), Fail> {
+    let blocks = lift(rt.alloc(), &Inst::Ret(0), 0x0804_8100, 0x0804_8101)?;
+    assert_eq!(rt; blocks.len(), 1);
     Ok(())
 }
