@@ -8,8 +8,6 @@ mod fun;
 mod page;
 mod spelling;
 mod stmt;
-#[cfg(test)]
-mod tests;
 mod word;
 
 pub use digits::eight_digits;

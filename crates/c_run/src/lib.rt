@@ -5,11 +5,7 @@
 
 mod callees;
 mod env;
-#[cfg(test)]
-mod form_tests;
 mod run;
 mod state;
-#[cfg(test)]
-mod tests;
 
 pub use run::run_c;

@@ -4,8 +4,6 @@
 
 mod laws;
 mod term;
-#[cfg(test)]
-mod tests;
 
 pub use laws::terms_mean_so;
 pub use term::{Lit, Term, copy, same_term, size};

@@ -8,8 +8,6 @@ mod mem_files;
 mod mem_sink;
 mod real;
 mod sink;
-#[cfg(test)]
-mod tests;
 
 pub use files::{Failed, Files};
 pub use mem_files::{MemFile, MemFiles};

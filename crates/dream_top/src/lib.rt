@@ -12,8 +12,6 @@ mod notes;
 mod refusals;
 mod runs;
 mod status;
-#[cfg(test)]
-mod tests;
 mod top;
 mod words;
 mod writing;

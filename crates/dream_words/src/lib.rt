@@ -10,8 +10,6 @@ mod memory;
 mod outcome;
 mod pages;
 mod signed;
-#[cfg(test)]
-mod tests;
 mod tree;
 mod words;
 

@@ -8,8 +8,6 @@ mod laws;
 mod line;
 mod range_counts;
 mod statements;
-#[cfg(test)]
-mod tests;
 
 pub use drill::drill_line;
 pub use laws::{code_has_image, drill_has_image};

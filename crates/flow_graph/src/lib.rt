@@ -9,8 +9,6 @@ mod place;
 mod range_code;
 mod sites;
 mod successors;
-#[cfg(test)]
-mod tests;
 mod walk;
 
 pub use discovery::discover;

@@ -9,8 +9,6 @@ mod ends;
 mod finding;
 mod owners;
 mod parts;
-#[cfg(test)]
-mod tests;
 
 pub use finding::loops;
 pub use parts::{Loops, Part};

@@ -5,8 +5,6 @@
 
 mod graph;
 mod laws;
-#[cfg(test)]
-mod tests;
 mod visits;
 
 pub use graph::{Graph, GraphFault, NodeId};

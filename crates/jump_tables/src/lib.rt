@@ -16,6 +16,3 @@ pub use laws::one_window;
 pub use reading::inst_at;
 pub use table::TableWindow;
 pub use windows::window;
-
-#[cfg(test)]
-mod tests;

@@ -5,8 +5,6 @@
 
 mod alu;
 mod condition;
-#[cfg(test)]
-mod tests;
 
 pub use alu::{AluLift, lift_alu};
 pub use condition::lift_cond;

@@ -10,8 +10,6 @@ mod memory;
 mod runs;
 mod settings;
 mod states;
-#[cfg(test)]
-mod tests;
 
 pub use laws::{all_pages_are_free, every_range_decodes, outcomes_stay, straying_is_exact};
 pub use memory::start_memory;

@@ -7,8 +7,6 @@ mod check;
 mod env;
 mod flow;
 mod laws;
-#[cfg(test)]
-mod tests;
 
 pub use c_syntax::{
     CBin as Bin, CCmp as Cmp, CCond as Cond, CExpr as Expr, CFn1 as Fn1, CFn2 as Fn2, CFn3 as Fn3,

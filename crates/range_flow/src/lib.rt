@@ -11,8 +11,6 @@ mod lifted;
 mod nodes;
 mod outside;
 mod places;
-#[cfg(test)]
-mod tests;
 
 pub use discovered::flow_of;
 pub use laws::{discovered_cover, flow_counts, flow_is_given, flows_agree, planned_flows_agree};

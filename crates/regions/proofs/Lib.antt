@@ -17,4 +17,3 @@ mod LineFormed
 mod Whole
 pub mod Stepping
 mod Ending
-mod Worked

@@ -7,8 +7,6 @@ mod copy;
 mod laws;
 mod one_line;
 mod one_loop;
-#[cfg(test)]
-mod tests;
 mod trees;
 
 pub use laws::{following_agrees, straight_is_exact};

@@ -7,8 +7,6 @@ mod laws;
 mod lines;
 mod numbers;
 mod starts;
-#[cfg(test)]
-mod tests;
 mod words;
 
 pub use laws::{files_hold_bytes, starts_are_starts};

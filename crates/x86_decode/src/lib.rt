@@ -17,6 +17,3 @@ pub use find::all_rows;
 pub use forms::{Form, Immediate, Shifted, Sizing, Source};
 pub use rows::{Mode, Repeats, Row, Width};
 pub use table::TABLE;
-
-#[cfg(test)]
-mod tests;

@@ -13,6 +13,3 @@ mod trial;
 
 pub use code::Code;
 pub use encoder::encode;
-
-#[cfg(test)]
-mod tests;

@@ -15,8 +15,6 @@ mod products;
 mod rows;
 mod shifts;
 mod strings;
-#[cfg(test)]
-mod tests;
 mod undefined;
 
 pub use effect::{Access, Effect, Go, Reads, Step, Stored};

@@ -1,9 +1,0 @@
-use Rattle.std.proofs.Common.{◌≡◌, subst, sym}
-use Rattle.micro_ir.specs.Rule.{IsGiven}
-use Rattle.regions.proofs.Worked.{ring_flow, ring_given}
-use Rattle.regions.proofs.tests.ring.Goals as goal
-
-pub returns : goal.returns
-returns c =
-    let made : c.in_ok-f.f ≡ ring_flow = c.in_ok-f.ensures {u = tt} in
-    subst IsGiven (sym made) ring_given

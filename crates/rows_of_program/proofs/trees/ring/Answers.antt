@@ -1,0 +1,9 @@
+use Rattle.std.proofs.Common.{◌≡◌, subst, sym}
+use Rattle.micro_ir.specs.Rule.{IsGiven}
+use Rattle.rows_of_program.proofs.Worked.{ring_flow, ring_given}
+use Rattle.rows_of_program.proofs.trees.ring.Goals as goal
+
+pub returns : goal.returns
+returns c =
+    let made : c.in_ok-f.f ≡ ring_flow = c.in_ok-f.ensures {u = tt} in
+    subst IsGiven (sym made) ring_given

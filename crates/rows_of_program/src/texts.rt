@@ -1,0 +1,210 @@
+//! What functions and texts are answered: the C, the header, the line of a drill.
+
+use crate::calls::{Zeros, call, decompile, files, sink, tidy};
+use crate::files::{MOVE, elf, elf_at, elf_with_main};
+use dream_outside::MemSink;
+use dream_top::Status;
+use drill_lines::drill_line;
+use elf_image::Range;
+use generators::make_drill;
+use std::test::Fail;
+
+// Its text, where it stands at 0x08048100.
+const MOVE_TEXT: &str =
+    "#include \"dream386.h\"\n\nvoid f_08048100(void)\n{\n  eax = 0x5u;\n  esp = (esp + 0x4u);\n  return;\n}\n";
+
+#[test]
+fn answers_with_ample_memory(rt: HostRuntime) -> Result<(), Fail> {
+    let alloc = rt.alloc();
+    let ran = decompile(alloc, elf(alloc, &MOVE)?, "0x08048100+6")?;
+    assert!(rt; ran.status == Status::Done);
+    assert_eq!(rt; ran.status.code(), 0);
+    assert_eq!(rt; ran.out.bytes().len(), 95);
+    assert_eq!(rt; ran.out.bytes(), MOVE_TEXT.as_bytes());
+    assert_eq!(rt; ran.notes.bytes().len(), 0);
+    Ok(())
+}
+
+#[test]
+fn finds_functions_by_name(rt: HostRuntime) -> Result<(), Fail> {
+    let alloc = rt.alloc();
+    let ran = decompile(alloc, elf_with_main(alloc)?, "main")?;
+    assert!(rt; ran.status == Status::Done);
+    assert_eq!(rt; ran.out.bytes(), MOVE_TEXT.as_bytes());
+    assert_eq!(rt; ran.notes.bytes().len(), 0);
+    let listed = elf_symbols::functions(alloc, &elf_with_main(alloc)?)
+        .map_err(|_| "no list")?
+        .list;
+    assert_eq!(rt; listed.len(), 1);
+    let main = listed.first().ok_or("no function")?;
+    assert_eq!(rt; main.name.as_slice(), b"main".as_slice());
+    assert!(rt; main.range == Range::new(0x0804_8100, 6));
+    Ok(())
+}
+
+#[test]
+fn prints_straight_lines(rt: HostRuntime) -> Result<(), Fail> {
+    let alloc = rt.alloc();
+    let cases: [(&[u8], u32, &str, &str); 4] = [
+        // A move of registers.
+        (
+            &[0x89, 0xc8, 0xc3],
+            0x0804_8000,
+            "0x08048100+3",
+            "#include \"dream386.h\"\n\nvoid f_08048100(void)\n{\n  eax = ecx;\n  esp = (esp + 0x4u);\n  return;\n}\n",
+        ),
+        // A jump out of the range.
+        (
+            &[0xe9, 0xfb, 0x0e, 0, 0],
+            0x0804_8000,
+            "0x08048100+5",
+            "#include \"dream386.h\"\n\nvoid f_08048100(void)\n{\n  ext(0x8049000u);\n  return;\n}\n",
+        ),
+        // Code that leaves the range.
+        (
+            &MOVE[..5],
+            0x0804_8000,
+            "0x8048100+00000005",
+            "#include \"dream386.h\"\n\nvoid f_08048100(void)\n{\n  eax = 0x5u;\n  ext(0x8048105u);\n  return;\n}\n",
+        ),
+        // Code up to the last address.
+        (
+            &MOVE,
+            0xffff_fefa,
+            "0xFFFFfffa+6",
+            "#include \"dream386.h\"\n\nvoid f_fffffffa(void)\n{\n  eax = 0x5u;\n  esp = (esp + 0x4u);\n  return;\n}\n",
+        ),
+    ];
+    for (code, base, func, text) in cases {
+        let ran = decompile(alloc, elf_at(alloc, base, code, false)?, func)?;
+        assert!(rt; ran.status == Status::Done, "{func}");
+        assert_eq!(rt; ran.out.bytes(), text.as_bytes(), "{func}");
+        assert_eq!(rt; ran.notes.bytes().len(), 0, "{func}");
+    }
+    Ok(())
+}
+
+// How often a word stands in a text.
+fn count(text: &[u8], word: &str) -> Result<usize, Fail> {
+    Ok(std::str::from_utf8(text)?.matches(word).count())
+}
+
+// Functions by their code: how many loops and switches their texts have, structured and plain.
+#[test]
+fn decompiles_in_two_forms(rt: HostRuntime) -> Result<(), Fail> {
+    let alloc = rt.alloc();
+    let cases: [(&[u8], &str, usize); 8] = [
+        // Straight lines: sums of registers, a call to the entry, a jump through a bare address, a return past a pushed word.
+        (&[0x89, 0xc8, 0x01, 0xd0, 0xc3], "0x08048100+5", 0),
+        (&[0xe8, 0xfb, 0xff, 0xff, 0xff, 0xc3], "0x08048100+6", 0),
+        (&[0xff, 0x25, 0x0c, 0xa0, 0x04, 0x08], "0x08048100+6", 0),
+        (&[0x50, 0xc3], "0x08048100+2", 0),
+        // A loop of additions, an empty loop, a branch, and a repeated string instruction.
+        (
+            &[
+                0x31, 0xc0, 0x8b, 0x4c, 0x24, 0x04, 0x01, 0xc8, 0x49, 0x75, 0xfb, 0xc3,
+            ],
+            "0x08048100+c",
+            1,
+        ),
+        (&[0xeb, 0xfe], "0x08048100+2", 1),
+        (
+            &[
+                0x8b, 0x44, 0x24, 0x04, 0x85, 0xc0, 0x79, 0x02, 0xf7, 0xd8, 0xc3,
+            ],
+            "0x08048100+b",
+            1,
+        ),
+        (&[0xf3, 0xab, 0xc3], "0x08048100+3", 1),
+    ];
+    for (code, func, loops) in cases {
+        let ran = decompile(alloc, elf(alloc, code)?, func)?;
+        assert!(rt; ran.status == Status::Done, "{func}");
+        assert_eq!(rt; count(ran.out.bytes(), "while (1)")?, loops, "{func}");
+        assert_eq!(rt; count(ran.out.bytes(), "switch (s0)")?, loops, "{func}");
+        assert_eq!(rt; ran.notes.bytes().len(), 0, "{func}");
+        let mut files = files(alloc, elf(alloc, code)?, Vec::new(alloc))?;
+        let ran = call(alloc, &mut files, &["plain", "a", func], sink(alloc)?)?;
+        assert!(rt; ran.status == Status::Done, "{func}");
+        assert_eq!(rt; count(ran.out.bytes(), "while (1)")?, 1, "{func}");
+        assert_eq!(rt; count(ran.out.bytes(), "switch (s0)")?, 1, "{func}");
+    }
+    Ok(())
+}
+
+#[test]
+fn tells_of_drills(rt: HostRuntime) -> Result<(), Fail> {
+    let alloc = rt.alloc();
+    let mut files = files(alloc, elf(alloc, &MOVE)?, Vec::new(alloc))?;
+    let ran = call(alloc, &mut files, &["drill", "500"], sink(alloc)?)?;
+    assert!(rt; ran.status == Status::Done);
+    assert!(rt;
+        ran.out
+            .bytes()
+            .starts_with(b"functions=500 bytes=10060 accepted=500 components=188 ")
+    );
+    assert!(rt; ran.out.bytes().ends_with(b"\n"));
+    assert_eq!(rt; ran.notes.bytes().len(), 0);
+    assert_eq!(rt; make_drill(alloc, 500)?.len(), 10_888);
+    Ok(())
+}
+
+// Every blank and line end after the first line is doubled, and a text that is no longer one of the profile.
+#[test]
+fn tidies_texts(rt: HostRuntime) -> Result<(), Fail> {
+    let alloc = rt.alloc();
+    let mut doubled = Vec::from_slice(alloc, &MOVE_TEXT.as_bytes()[..22])?;
+    for &byte in &MOVE_TEXT.as_bytes()[22..] {
+        doubled.push(byte)?;
+        if byte == b' ' || byte == b'\n' {
+            doubled.push(byte)?;
+        }
+    }
+    let ran = tidy(alloc, &doubled)?;
+    assert!(rt; ran.status == Status::Done);
+    assert_eq!(rt; ran.out.bytes().len(), 95);
+    assert_eq!(rt; ran.out.bytes(), MOVE_TEXT.as_bytes());
+    assert_eq!(rt; ran.notes.bytes().len(), 0);
+    let text = b"#include \"dream386.h\"\n\nvoid f_08048100(void)\n{\n  goto x;\n}\n";
+    let ran = tidy(alloc, text.as_slice())?;
+    assert!(rt; ran.status == Status::NotProfile(49));
+    assert_eq!(rt; ran.status.code(), 9);
+    assert_eq!(rt;
+        ran.notes.bytes(),
+        b"dream: not a profile text at 49\n".as_slice()
+    );
+    assert_eq!(rt; ran.out.bytes().len(), 0);
+    Ok(())
+}
+
+// A path that holds nothing, a file that is longer than the limit and no text, and an output that stops.
+#[test]
+fn tidies_in_the_order_of_refusals(rt: HostRuntime) -> Result<(), Fail> {
+    let alloc = rt.alloc();
+    let text = Vec::from_slice(alloc, MOVE_TEXT.as_bytes())?;
+    let mut files = files(alloc, text, Vec::new(alloc))?;
+    let ran = call(alloc, &mut files, &["tidy", "b"], sink(alloc)?)?;
+    assert!(rt; ran.status == Status::ReadFault);
+    let narrow = MemSink::new(alloc, 67_108_864, 10, vec![in alloc; 2]?)?;
+    let ran = call(alloc, &mut files, &["tidy", "a"], narrow)?;
+    assert!(rt; ran.status == Status::WriteFault);
+    assert_eq!(rt; ran.out.bytes(), b"#include \"".as_slice());
+    for (left, status) in [
+        (67_108_865, Status::FileTooLarge),
+        (67_108_864, Status::NotProfile(0)),
+    ] {
+        let mut zeros = Zeros { left, got: 0 };
+        let ran = call(alloc, &mut zeros, &["tidy", "a"], sink(alloc)?)?;
+        assert!(rt; ran.status == status, "{left}");
+        assert_eq!(rt; ran.out.bytes().len(), 0, "{left}");
+    }
+    Ok(())
+}
+
+// The functions of the eight kinds have 6, 11, 12, 9, 10, 8, 38 and 15 bytes.
+#[test]
+fn tells_the_bytes_of_eight_functions(rt: HostRuntime) -> Result<(), Fail> {
+    let line = drill_line(rt.alloc(), 8)?;
+    assert!(rt; line.starts_with(b"functions=8 bytes=109 accepted="));
+    Ok(())
+}
