@@ -1,11 +1,10 @@
 -- Elements at places, in lists one after another.
-use Rattle.std.proofs.Common.{◌≡◌, ℕ, zero, suc, ◌+◌, ◌-◌, ◌<◌, ◌∙◌, ◌⊎◌, inl, inr, ⊎_elim, sym, ap, subst, refl, arith, Bool, true, false, List, [], ◌∷◌, ◌++◌, length, Some, map, reverse, get_or}
+use Rattle.std.proofs.Common.{◌≡◌, ℕ, zero, suc, ◌+◌, ◌-◌, ◌<◌, ◌∙◌, ◌⊎◌, inl, inr, ⊎_elim, sym, ap, subst, refl, arith, List, [], ◌∷◌, ◌++◌, length, Some, map, reverse, get_or}
 use Rattle.std.specs.Prelude.{Contains}
 use Rattle.std.specs.Option.{option_map}
 use Rattle.std.proofs.lemmas.Option.{none-some, same_Some, slice_get-map, slice_get-get_or, slice_get_within, get_or_from_slice_get}
 use Rattle.std.proofs.lemmas.List.{length-reverse, get_or-reverse}
 use Rattle.std.proofs.lemmas.List.Elements.{Contains-append_right}
-use Rattle.graph_order.specs.Graph.{IsMarked}
 use Rattle.graph_order.specs.Finish.{IsAt}
 
 module _ {X : Type 0} where
@@ -64,11 +63,3 @@ at_reverse xs i n a =
     let j = length xs - 1 - i in
     let same : get_or xs j n ≡ n = sym (get_or-reverse xs i n h) ∙ get_or_from_slice_get (reverse xs) i n n a in
     (j, omega (arith, h), slice_get-get_or xs j n (omega (arith, h)) ∙ ap Some same)
-
--- a node is marked or it isn't
-pub mark_cases : (marks : List Bool) (n : ℕ) → IsMarked marks n ⊎ (get_or marks n false ≡ false)
-mark_cases marks n = by (get_or marks n false) refl
-  where
-    by : (b : Bool) → get_or marks n false ≡ b → IsMarked marks n ⊎ (get_or marks n false ≡ false)
-    by true e = inl e
-    by false e = inr e
