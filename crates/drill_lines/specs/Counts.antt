@@ -3,7 +3,7 @@ use Rattle.std.specs.Prelude.{◌≡◌, ℕ, List, length}
 use Rattle.elf_image.specs.declared.image.Segment.{Segment}
 use Rattle.elf_image.specs.declared.range.Range.{Range}
 use Rattle.graph_order.specs.Graph.{Digraph}
-use Rattle.graph_components.specs.Listed.{AreComponents}
+use Rattle.graph_order.specs.Listed.{AreComponents}
 use Rattle.flow_graph.specs.declared.place.Place.{Place}
 use Rattle.flow_graph.specs.Place.{NamedPlace, HasNoPlace}
 use Rattle.flow_graph.specs.Discovery.{IsDiscovered}

@@ -9,7 +9,7 @@ use c_syntax::CFun;
 use dream_engine::{Form, decompile_fun};
 use elf_image::{Image, Range};
 use flow_graph::{FlowFault, discover};
-use graph_components::components;
+use graph_order::components;
 use std::alloc::{AllocError, Global};
 
 /// What is counted of a range.

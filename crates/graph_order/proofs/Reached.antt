@@ -5,7 +5,8 @@ use Rattle.std.proofs.lemmas.List.{length-replicate}
 use Rattle.std.proofs.lemmas.List.Elements.{Contains-append_cases, Contains-append_left, Contains-push}
 use Rattle.graph_order.specs.Graph.{Digraph, HasEdge, stay, step, IsReached, IsMarked}
 use Rattle.graph_order.specs.Marks.{Visits}
-use Rattle.graph_order.proofs.Marked.{marked_inside, none_marked, marked_either, set_is_marked, only_one, nothing_in}
+use Rattle.graph_order.proofs.Marked.{marked_inside, none_marked, marked_either, set_is_marked, only_one}
+use Rattle.graph_order.proofs.Growing.{nothing_in}
 
 -- only reached nodes are marked, and an edge leads from a marked node to an unmarked one only where the first waits
 pub record Searches (g : Digraph) (marks : List Bool) (waiting : List ℕ) : Type 0 where
@@ -37,7 +38,7 @@ Searches-turn g marks new old rest waiting node e size s v =
       size = size ∙ s.size;
       begun = v.marks_stay g.entry s.begun;
       sound = λ n m. ⊎_elim (s.sound n) (λ p. step node (s.sound node here) p.0) (v.new_marks n m);
-      waits = λ n w. ⊎_elim (λ q. v.marks_stay n (s.waits n (subst (λ l. Contains l n) (sym e) (Contains-append_left rest (node ∷ []) n q)))) (λ m. m) (v.new_waiting n w);
+      waits = λ n w. ⊎_elim (λ q. v.marks_stay n (s.waits n (subst (λ l. Contains l n) (sym e) (Contains-append_left rest (node ∷ []) n q)))) (λ p. p.0) (v.new_waiting n w);
       closed = λ n k m edge.
           ⊎_elim
           (λ was. ⊎_elim

@@ -2,3 +2,11 @@ pub mod Graph
 pub mod Components
 pub mod Order
 pub mod Marks
+pub mod Finish
+pub mod Classes
+pub mod Listed
+pub mod Arrivals
+pub mod Owners
+pub mod Bare
+pub mod Ends
+pub mod Loops

@@ -1,7 +1,7 @@
 //! What holds of the definitions alone, each law the contract of a function without code.
 
 ghost use Rattle.graph_order.specs.Components.{ComponentsAreApart, EachCycleHoldsAHead};
-ghost use Rattle.graph_order.specs.Order.{CyclesHaveNoOrder};
+ghost use Rattle.graph_order.specs.Order.{CyclesHaveNoOrder, EntryStandsFirst};
 
 /// Components with a common member have the same members.
 pub fn components_are_apart()
@@ -16,4 +16,9 @@ pub fn each_cycle_holds_a_head()
 /// A graph with a reached cycle has no topological order.
 pub fn cycles_have_no_order()
     ensures { CyclesHaveNoOrder }
+{}
+
+/// A topological order begins with the entry.
+pub fn the_entry_stands_first()
+    ensures { EntryStandsFirst }
 {}

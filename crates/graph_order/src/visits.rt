@@ -24,7 +24,7 @@ pub fn reach(alloc: Global, g: &Graph) -> Result<Vec<bool>, AllocError>
 }
 
 /// Marks those of some nodes that aren't marked yet, and lets them wait.
-fn visit(
+pub(crate) fn visit(
     nodes: &[NodeId],
     reached: &mut [bool],
     waiting: &mut Vec<NodeId>,

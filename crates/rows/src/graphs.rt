@@ -1,9 +1,8 @@
-//! Small graphs, and large ones.
+//! Worked graphs, and large ones.
 
 ghost use Rattle.std.specs.Prelude.{◌≡◌, ◌^◌, ◌<◌, length, IfOk};
 
-use graph_loops::loops;
-use graph_order::{Graph, GraphFault, NodeId, reach};
+use graph_order::{Graph, GraphFault, NodeId, OrderFault, loops, reach, topo_order};
 use std::alloc::{AllocError, Global};
 use std::test::Fail;
 
@@ -90,31 +89,55 @@ fn what_the_entry_reaches(rt: HostRuntime) -> Result<(), Fail> {
 }
 
 #[test]
-fn what_is_reached_of_large_graphs(rt: HostRuntime) -> Result<(), Fail> {
+fn orders_of_small_graphs(rt: HostRuntime) -> Result<(), Fail> {
     let alloc = rt.alloc();
-    // A cycle, one against the numbers, and one with five more edges from each node.
-    for places in [&[1][..], &[65_535], &[1, 2, 3, 5, 7, 65_535]] {
-        let lists = circle(alloc, 65_536, places)?;
-        let graph = Graph::new(alloc, NodeId(9), lists).map_err(|_| "no graph")?;
-        assert!(rt; reach(alloc, &graph)?.iter().all(|r| *r));
+    // Lists of successors, and the order from node 0 on.
+    let rows: [(&[&[u32]], &[NodeId]); 5] = [
+        (&[&[]], &[NodeId(0)]),
+        (&[&[2], &[2], &[]], &[NodeId(0), NodeId(2)]),
+        (
+            &[&[3], &[], &[1], &[2, 1]],
+            &[NodeId(0), NodeId(3), NodeId(2), NodeId(1)],
+        ),
+        // Two arms that meet: each stands together, the first successor's before the other's.
+        (
+            &[&[1, 3], &[2], &[5], &[4], &[5], &[]],
+            &[
+                NodeId(0),
+                NodeId(1),
+                NodeId(2),
+                NodeId(3),
+                NodeId(4),
+                NodeId(5),
+            ],
+        ),
+        // A cycle that isn't reached.
+        (&[&[], &[2], &[1]], &[NodeId(0)]),
+    ];
+    for (lists, want) in &rows {
+        let graph = Graph::new(alloc, NodeId(0), lists_of(alloc, lists)?).map_err(|_| "no graph")?;
+        let order = topo_order(alloc, &graph).map_err(|_| "no order")?;
+        assert!(rt; order.as_slice() == *want);
     }
-    // Two cycles apart from each other.
-    let graph = Graph::new(alloc, NodeId(3), circle(alloc, 65_536, &[2])?).map_err(|_| "no graph")?;
-    assert_eq!(rt;
-        reach(alloc, &graph)?.iter().filter(|r| **r).count(),
-        32_768
-    );
     Ok(())
 }
 
 #[test]
-fn a_line_from_its_tenth_node(rt: HostRuntime) -> Result<(), Fail> {
+fn cycles_of_small_graphs(rt: HostRuntime) -> Result<(), Fail> {
     let alloc = rt.alloc();
-    let graph = Graph::new(alloc, NodeId(9), line(alloc, 65_536, 0)?).map_err(|_| "no graph")?;
-    assert_eq!(rt;
-        reach(alloc, &graph)?.iter().filter(|r| **r).count(),
-        65_527
-    );
+    // Lists of successors, and the edges of which one is told.
+    let rows: [(&[&[u32]], &[(u32, u32)]); 3] = [
+        (&[&[1], &[0]], &[(0, 1), (1, 0)]),
+        (&[&[0]], &[(0, 0)]),
+        (&[&[3, 1], &[2], &[3], &[2]], &[(2, 3), (3, 2)]),
+    ];
+    for (lists, edges) in &rows {
+        let graph = Graph::new(alloc, NodeId(0), lists_of(alloc, lists)?).map_err(|_| "no graph")?;
+        let fault = topo_order(alloc, &graph).err();
+        assert!(rt;
+            edges.iter().any(|(a, b)| fault == Some(OrderFault::Cyclic(NodeId(*a), NodeId(*b))))
+        );
+    }
     Ok(())
 }
 
@@ -151,7 +174,47 @@ fn the_loops_of_small_graphs(rt: HostRuntime) -> Result<(), Fail> {
 }
 
 #[test]
-fn the_loops_of_large_graphs(rt: HostRuntime) -> Result<(), Fail> {
+fn what_large_graphs_reach(rt: HostRuntime) -> Result<(), Fail> {
+    let alloc = rt.alloc();
+    // A cycle, one against the numbers, and one with five more edges from each node.
+    for places in [&[1][..], &[65_535], &[1, 2, 3, 5, 7, 65_535]] {
+        let lists = circle(alloc, 65_536, places)?;
+        let graph = Graph::new(alloc, NodeId(9), lists).map_err(|_| "no graph")?;
+        assert!(rt; reach(alloc, &graph)?.iter().all(|r| *r));
+    }
+    // Two cycles apart from each other.
+    let graph = Graph::new(alloc, NodeId(3), circle(alloc, 65_536, &[2])?).map_err(|_| "no graph")?;
+    assert_eq!(rt;
+        reach(alloc, &graph)?.iter().filter(|r| **r).count(),
+        32_768
+    );
+    Ok(())
+}
+
+#[test]
+fn what_a_line_reaches(rt: HostRuntime) -> Result<(), Fail> {
+    let alloc = rt.alloc();
+    let graph = Graph::new(alloc, NodeId(9), line(alloc, 65_536, 0)?).map_err(|_| "no graph")?;
+    assert_eq!(rt;
+        reach(alloc, &graph)?.iter().filter(|r| **r).count(),
+        65_527
+    );
+    Ok(())
+}
+
+#[test]
+fn orders_of_large_graphs(rt: HostRuntime) -> Result<(), Fail> {
+    let alloc = rt.alloc();
+    let graph = Graph::new(alloc, NodeId(9), line(alloc, 65_536, 0)?).map_err(|_| "no graph")?;
+    let order = topo_order(alloc, &graph).map_err(|_| "no order")?;
+    assert!(rt; order.len() == 65_527 && order.first() == Some(&NodeId(9)));
+    let graph = Graph::new(alloc, NodeId(9), circle(alloc, 65_536, &[1])?).map_err(|_| "no graph")?;
+    assert!(rt; matches!(topo_order(alloc, &graph), Err(OrderFault::Cyclic(_, _))));
+    Ok(())
+}
+
+#[test]
+fn loops_of_large_graphs(rt: HostRuntime) -> Result<(), Fail> {
     let alloc = rt.alloc();
     // One cycle of all nodes, and a line.
     for (closed, parts) in [(65_536, 1), (0, 0)] {

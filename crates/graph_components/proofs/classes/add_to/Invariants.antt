@@ -1,6 +1,0 @@
-use Rattle.std.proofs.Common.{map, take}
-use Rattle.graph_components.specs.Classes.{AddsTo}
-use Rattle.graph_components.proofs.classes.add_to.Given as goal
-
-abbrev pub invariant-loop-target : goal.invariant-loop-target
-invariant-loop-target l = AddsTo l.from (take l.target-index l.targets) (map (λ v. v.items) l.initial.lists) (map (λ v. v.items) l.lists)

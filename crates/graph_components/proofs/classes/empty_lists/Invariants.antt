@@ -1,5 +1,0 @@
-use Rattle.std.proofs.Common.{◌≡◌, All, length}
-use Rattle.graph_components.proofs.classes.empty_lists.Given as goal
-
-abbrev pub invariant-loop : goal.invariant-loop
-invariant-loop l = (length l.lists.items ≡ l.counter) × All (λ v. length v.items ≡ 0) l.lists.items

@@ -1,4 +1,0 @@
-pub mod Marks
-pub mod Finish
-pub mod Classes
-pub mod Listed

@@ -1,9 +1,0 @@
-mod Lists
-mod Keeping
-mod Adding
-mod Owning
-mod Entering
-mod Rests
-mod Cycles
-mod Leaving
-mod Joined

@@ -1,5 +1,0 @@
-use Rattle.std.proofs.Common.{◌≡◌, ℕ, ◌<◌, get_or}
-use Rattle.graph_loops.proofs.arrivals.has_other.Given as goal
-
-abbrev pub invariant-loop-other : goal.invariant-loop-other
-invariant-loop-other l = (k d : ℕ) → k < l.other-index → get_or l.nodes k d ≡ l.fn.node

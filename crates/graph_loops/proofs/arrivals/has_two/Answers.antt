@@ -1,7 +1,0 @@
-use Rattle.std.proofs.Common.{ap, sym, ◌∙◌}
-use Rattle.std.specs.Option.{option_copied}
-use Rattle.graph_loops.proofs.Lists.{first_among, two_from_other}
-use Rattle.graph_loops.proofs.arrivals.has_two.Goals as goal
-
-pub returns-in-Some : goal.returns-in-Some
-returns-in-Some c = two_from_other c.args.nodes.now c.in-Some.field-0.now (first_among c.args.nodes.now c.in-Some.field-0.now (sym c.first.ensures.value ∙ ap option_copied c.in-Some.is)) c.has_other.result c.has_other.ensures
