@@ -1,9 +1,12 @@
 -- Statements and trees with new names do what they did, where worlds are read through the renaming.
 use Rattle.std.proofs.Common.{map, ◌≡◌, ℕ, Bool, true, false, if◌then◌else◌, List, [], ◌∷◌, ◌++◌, Option, Some, None, refl, sym, ap, ◌∙◌, subst}
 use Rattle.std.proofs.Math.Path.{fun_ext}
+use Rattle.dream_words.specs.Memory.{load, store, bytes_of}
+use Rattle.dream_words.specs.Pages.{first_bad}
 use Rattle.dream_words.specs.Words.{bit_of}
 use Rattle.dream_words.specs.declared.machine.Regs.{Regs}
 use Rattle.dream_words.specs.declared.machine.Name.{Name}
+use Rattle.dream_words.specs.declared.machine.Width.{Width}
 use Rattle.dream_words.specs.declared.outcome.Answer.{Answer}
 use Rattle.dream_words.specs.declared.outcome.Call.{Call}
 use Rattle.dream_words.specs.declared.outcome.Start.{Start}
@@ -12,7 +15,7 @@ use Rattle.dream_words.specs.declared.outcome.Outcome.TheVariants as outcome
 use Rattle.run_parts.specs.Parts.{Ends, Goes, Past, Broke, Over, Stuck, Run, on, after, skip, seq}
 use Rattle.run_parts.specs.Steps.{Next, Halt, Jam, having, done, simply, then_do}
 use Rattle.run_parts.specs.World.{Names, World, with_name, regs_in, answered, start_names, start_world, returned, outcome_of}
-use Rattle.run_parts.specs.Effects.{Doing, set_word, setting, loading, storing, calling, trapping, answered_by}
+use Rattle.run_parts.specs.Effects.{Doing, set_word, setting, allowing, loading, storing, calling, trapping, answered_by}
 use Rattle.c_syntax.specs.declared.syntax.CBin.TheVariants.{Shl}
 use Rattle.c_syntax.specs.declared.syntax.CExpr.{CExpr, CExpr-F}
 use Rattle.c_syntax.specs.declared.syntax.CCond.{CCond}
@@ -89,7 +92,7 @@ module _ (X : Name → Bool) (f : Name → Name) (ok : IsRenaming X f) where
 
   answered_seen : (left : List Answer) (calls : List Call) (w : World) → seen_did (pull X f) (answered_by left calls w) ≡ answered_by left calls (pull X f w)
   answered_seen [] calls w = refl
-  answered_seen (a ∷ rest) calls w = ap (λ (v : Names). Next (record { names = v; mem = a.mem; left = rest; calls = calls })) (fun_ext (ok.answers a w.names))
+  answered_seen (a ∷ rest) calls w = ap (λ (v : Names). Next (record w { names = v; mem = a.mem; left = rest; calls = calls })) (fun_ext (ok.answers a w.names))
 
   calling_seen : (x : ℕ) (w : World) → seen_did (pull X f) (calling x w) ≡ calling x (pull X f w)
   calling_seen x w =
@@ -101,7 +104,20 @@ module _ (X : Name → Bool) (f : Name → Name) (ok : IsRenaming X f) where
   if_seen false c d c' d' p q = q
 
   trapping_seen : (vector x : ℕ) (w : World) → seen_did (pull X f) (trapping vector x w) ≡ trapping vector x (pull X f w)
-  trapping_seen vector x w = if_seen _ (Next w) (Halt (outcome.Faulted vector w.mem w.calls)) _ _ refl refl
+  trapping_seen vector x w = if_seen _ (Next w) (Halt (outcome.Faulted vector 0 w.mem w.calls)) _ _ refl refl
+
+  -- an access that is allowed in a world is allowed in that one read through the renaming
+  allowing_seen : (bad : Option ℕ) (w : World) (d d' : Doing) → seen_did (pull X f) d ≡ d' → seen_did (pull X f) (allowing bad w d) ≡ allowing bad (pull X f w) d'
+  allowing_seen None w d d' h = h
+  allowing_seen (Some a) w d d' h = refl
+
+  loading_seen : (n : Name) (width : Width) (at : ℕ) (w : World) → X n ≡ true → seen_did (pull X f) (loading (f n) width at w) ≡ loading n width at (pull X f w)
+  loading_seen n width at w h = let x = load w.mem at (bytes_of width) in
+      allowing_seen (first_bad w.pages.read at (bytes_of width)) w (Next (set_word (f n) x w)) (Next (set_word n x (pull X f w))) (ap (λ (v : World). Next v) (set_seen n x w h))
+
+  storing_seen : (width : Width) (at x : ℕ) (w : World) → seen_did (pull X f) (storing width at x w) ≡ storing width at x (pull X f w)
+  storing_seen width at x w = let mem = store w.mem at (bytes_of width) x in
+      allowing_seen (first_bad w.pages.write at (bytes_of width)) w (Next (record w { mem = mem })) (Next (record (pull X f w) { mem = mem })) refl
 
   -- ---- simple statements
 
@@ -131,13 +147,13 @@ module _ (X : Name → Bool) (f : Name → Name) (ok : IsRenaming X f) where
       subst (λ (a : Part). Same (pull X f) a (simply (does_load n width e))) (sym (run_layer (CStmt-F.Load (f n) width (renamed_word f e))))
       (simply_same (pull X f) (does_load (f n) width (renamed_word f e)) (does_load n width e) (λ w.
       does_seen _ _ (λ at. loading (f n) width at w) (λ at. loading n width at (pull X f w)) (word_in_kept e (known_first X (word_uses e) (Sets n ∷ []) h) w)
-      (λ at. ap (λ (v : World). Next v) (set_seen n _ w (known_second X (word_uses e) (Sets n ∷ []) h).0))))
+      (λ at. loading_seen n width at w (known_second X (word_uses e) (Sets n ∷ []) h).0)))
   stmt_seen (stmt.Store width e g) h =
       subst (λ (a : Part). Same (pull X f) a (simply (does_store width e g))) (sym (run_layer (CStmt-F.Store width (renamed_word f e) (renamed_word f g))))
       (simply_same (pull X f) (does_store width (renamed_word f e) (renamed_word f g)) (does_store width e g) (λ w.
       does_seen _ _ (λ at. having (word_in (renamed_word f g) w) (λ x. storing width at x w)) (λ at. having (word_in g (pull X f w)) (λ x. storing width at x (pull X f w)))
       (word_in_kept e (known_first X (word_uses e) (word_uses g) h) w)
-      (λ at. does_seen _ _ (λ x. storing width at x w) (λ x. storing width at x (pull X f w)) (word_in_kept g (known_second X (word_uses e) (word_uses g) h) w) (λ x. refl))))
+      (λ at. does_seen _ _ (λ x. storing width at x w) (λ x. storing width at x (pull X f w)) (word_in_kept g (known_second X (word_uses e) (word_uses g) h) w) (λ x. storing_seen width at x w))))
   stmt_seen (stmt.Ext e) h =
       subst (λ (a : Part). Same (pull X f) a (simply (does_ext e))) (sym (run_layer (CStmt-F.Ext (renamed_word f e))))
       (simply_same (pull X f) (does_ext (renamed_word f e)) (does_ext e) (does_ext_seen e h))

@@ -29,6 +29,7 @@ pub trait Files {
         ensures held { held self.new ≡ held self.old }
         ensures opened { OnOk result (IsOpened (held self.old) path.now (left self.new)) }
         ensures none_got { OnOk result (got self.new ≡ 0) }
+        ensures no_fault { OnOk result (faults self.new ≡ faults self.old) }
         ensures left { OnErr result (left self.new ≡ left self.old) }
         ensures got { OnErr result (got self.new ≡ got self.old) };
 
@@ -40,5 +41,6 @@ pub trait Files {
         ensures left { OnErr result (left self.new ≡ left self.old) }
         ensures got { CountsTaken (got self.old) (got self.new) result }
         ensures held { held self.new ≡ held self.old }
-        ensures cause { HasCause (faults self.old) (faults self.new) result };
+        ensures cause { HasCause (faults self.old) (faults self.new) result }
+        ensures no_fault { OnOk result (faults self.new ≡ faults self.old) };
 }

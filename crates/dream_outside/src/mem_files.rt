@@ -117,6 +117,7 @@ impl Files for MemFiles {
         ensures held { held_by self.new ≡ held_by self.old }
         ensures opened { OnOk result (IsOpened (Some (held_by self.old)) path.now (Some (left_in self.new))) }
         ensures none_got { OnOk result (got_by self.new ≡ 0) }
+        ensures no_fault { OnOk result (faults_of self.new ≡ faults_of self.old) }
         ensures left { OnErr result (left_in self.new ≡ left_in self.old) }
         ensures got { OnErr result (got_by self.new ≡ got_by self.old) }
 
@@ -147,6 +148,7 @@ impl Files for MemFiles {
         ensures got { CountsTaken (got_by self.old) (got_by self.new) result }
         ensures held { held_by self.new ≡ held_by self.old }
         ensures cause { HasCause (faults_of self.old) (faults_of self.new) result }
+        ensures no_fault { OnOk result (faults_of self.new ≡ faults_of self.old) }
 
         // It fails just where its number is listed, and else takes as much as fits.
         ensures failed { IsErr result ↔ IsFailing self.old }

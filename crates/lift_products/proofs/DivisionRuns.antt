@@ -13,7 +13,8 @@ use Rattle.x86_inst.specs.declared.Size.TheVariants.{B, H, W}
 use Rattle.x86_inst.specs.declared.Operand.{Operand}
 use Rattle.x86_inst.specs.declared.Operand.TheVariants as o
 use Rattle.x86_model.specs.declared.effect.Step.{Step}
-use Rattle.x86_model.specs.Leads.{step_does}
+use Rattle.x86_model.specs.Leads.{allowed, step_does}
+use Rattle.x86_model.specs.Machine.{Faulted, Finished}
 use Rattle.x86_model.specs.Operands.{bits_of, value_of}
 use Rattle.x86_model.specs.WideRows.{divided, with_pair}
 use Rattle.c_syntax.specs.declared.syntax.CBin.TheVariants as op
@@ -29,9 +30,9 @@ use Rattle.micro_ir.specs.declared.flow.End.TheVariants as end
 use Rattle.micro_ir.specs.Run.{block_leads, end_leads, stmts_do}
 use Rattle.lift_parts.specs.Lifted.{Matches, through}
 use Rattle.lift_parts.specs.Parts.{reads, temp}
-use Rattle.lift_parts.specs.Shown.{AreNames, Runs}
+use Rattle.lift_parts.specs.Shown.{AreNames, Runs, RunsTo}
 use Rattle.lift_parts.specs.Stands.{Stands, state_in}
-use Rattle.lift_parts.proofs.Chains.{runs_append, set_runs}
+use Rattle.lift_parts.proofs.Chains.{faults_append, runs_append, set_runs}
 use Rattle.lift_parts.proofs.Kept.{AfterRead}
 use Rattle.lift_parts.proofs.Values.{value_fits}
 use Rattle.lift_blocks.specs.Ends.{goes_on}
@@ -127,8 +128,8 @@ trap_runs {w} {u} {rest} vector e h r = record { runs = ap (λ o. then_do (havin
 
 -- a trap that is taken ends all
 trap_ends : (vector : ℕ) (e : CExpr) (rest : List Stmt) (w : World) (x : ℕ) → word_of e w.names ≡ Some x → nat_eq x 0 ≡ false
-    → stmts_do (stmt.Trap vector e ∷ rest) w ≡ Halt (outcome.Faulted vector w.mem w.calls)
-trap_ends vector e rest w x h k = trap_does vector e rest w x h ∙ ap (λ b. then_do (if b then Next w else Halt (outcome.Faulted vector w.mem w.calls)) (stmts_do rest)) k
+    → stmts_do (stmt.Trap vector e ∷ rest) w ≡ Halt (outcome.Faulted vector 0 w.mem w.calls)
+trap_ends vector e rest w x h k = trap_does vector e rest w x h ∙ ap (λ b. then_do (if b then Next w else Halt (outcome.Faulted vector 0 w.mem w.calls)) (stmts_do rest)) k
 
 module _ (signed : Bool) (size : Size) (s : Operand) (a : Step) (w u : World) (runs : Runs (reads size s) w u) (read : AfterRead a w u) (h0 : Sees size s s a u.names) where
   abbrev p : Option (ℕ × ℕ)
@@ -149,13 +150,13 @@ module _ (signed : Bool) (size : Size) (s : Operand) (a : Step) (w u : World) (r
   rest = stmt.Set (name.T 2) (divided_word (remainder_function signed) signed size s) ∷ pair_writes size
 
   -- where there is no quotient, the trap is taken
-  faults : nat_eq (bad_value signed size p) 0 ≡ false → stmts_do (divide_stmts signed size s) w ≡ Halt (outcome.Faulted 0 w.mem w.calls)
+  faults : nat_eq (bad_value signed size p) 0 ≡ false → stmts_do (divide_stmts signed size s) w ≡ Halt (outcome.Faulted 0 0 w.mem w.calls)
   faults e =
       after_reads size s (stmt.Set (name.T 1) (divided_word (quotient_function signed) signed size s) ∷ stmt.Trap 0 (bad_word signed size s) ∷ rest) w u runs
       ∙ set_does (name.T 1) (divided_word (quotient_function signed) signed size s) (stmt.Trap 0 (bad_word signed size s) ∷ rest) u (quotient p) (quotient_value signed s a size u.names h0)
       ∙ trap_ends 0 (bad_word signed size s) rest kept (bad_value signed size p) (bad_is signed s a size kept.names kept_sees refl) e
-      ∙ ap (λ m. Halt (outcome.Faulted 0 m u.calls)) read.mem
-      ∙ ap (λ c. Halt (outcome.Faulted 0 w.mem c)) read.calls
+      ∙ ap (λ m. Halt (outcome.Faulted 0 0 m u.calls)) read.mem
+      ∙ ap (λ c. Halt (outcome.Faulted 0 0 w.mem c)) read.calls
 
   -- else the pair's registers get its quotient and its remainder
   divides : (q r : ℕ) → bad_value signed size p ≡ 0 → low_part (bits_of size) (quotient p) ≡ low_part (bits_of size) q → low_part (bits_of size) (remainder p) ≡ low_part (bits_of size) r
@@ -175,6 +176,7 @@ module _ (signed : Bool) (size : Size) (s : Operand) (a : Step) (w u : World) (r
           fs = sym (sets.fs ∙ read.fs);
           gs = sym (sets.gs ∙ read.gs);
           mem = sym (sets.mem ∙ read.mem);
+          pages = sym (sets.pages ∙ read.pages);
           left = sym (sets.left ∙ read.left);
           calls = sym (sets.calls ∙ read.calls);
         },
@@ -192,6 +194,15 @@ module _ (signed : Bool) (size : Size) (s : Operand) (a : Step) (w u : World) (r
       subst (λ k. Matches 1 (next ∷ []) (step_does (divided (Some (q, r)) size a) at next (state_in w a.flags)) (through 1 (goes_on at (divide_stmts signed size s) ∷ []) k))
       (sym (ap (λ d. arrive d (end_leads (end.Go 1))) leads.runs)) (0, refl, refl, stands)
 
-  pub divides_as : (at next : ℕ) → Matches 1 (next ∷ []) (step_does (divided (sized_quotient signed size a.regs (value_of size s a)) size a) at next (state_in w a.flags))
+  divides_as : (at next : ℕ) → Matches 1 (next ∷ []) (step_does (divided (sized_quotient signed size a.regs (value_of size s a)) size a) at next (state_in w a.flags))
       (through 1 (goes_on at (divide_stmts signed size s) ∷ []) (block_leads (goes_on at (divide_stmts signed size s)) w))
   divides_as at next = block_by at next (sized_quotient signed size a.regs (value_of size s a)) (quotient_tells signed size a.regs (value_of size s a) (value_fits a u.names h0.names h0.shows size s))
+
+-- Where the read is refused the block ends with its fault, and else it leads where the step does after it.
+pub divides_after : (bad : Option ℕ) (signed : Bool) (size : Size) (s : Operand) (a : Step) (w u : World) → RunsTo bad (reads size s) w u → AfterRead a w u → Sees size s s a u.names → (at next : ℕ)
+    → Matches 1 (next ∷ []) (allowed bad (state_in w a.flags) (step_does (divided (sized_quotient signed size a.regs (value_of size s a)) size a) at next (state_in w a.flags)))
+    (through 1 (goes_on at (divide_stmts signed size s) ∷ []) (block_leads (goes_on at (divide_stmts signed size s)) w))
+divides_after None signed size s a w u runs read h at next = divides_as signed size s a w u (record { runs = runs.runs }) read h at next
+divides_after (Some bad) signed size s a w u runs read h at next =
+    subst (λ d. Matches 1 (next ∷ []) (Finished (Faulted 14 bad w.mem w.calls)) (through 1 (goes_on at (divide_stmts signed size s) ∷ []) (arrive d (end_leads (end.Go 1)))))
+    (sym (faults_append (Some bad) (reads size s) _ runs)) refl

@@ -36,6 +36,7 @@ pair_runs size high low w h e f =
         fs = second.fs ∙ first.fs;
         gs = second.gs ∙ first.gs;
         mem = second.mem ∙ first.mem;
+        pages = second.pages ∙ first.pages;
         left = second.left ∙ first.left;
         calls = second.calls ∙ first.calls;
       },

@@ -1,5 +1,5 @@
 -- The statements of products lead to the product and its overflow.
-use Rattle.std.proofs.Common.{◌≡◌, ℕ, ◌*◌, ◌/◌, ◌%◌, ◌^◌, Bool, true, false, not, nat_eq, Some, refl, sym, ap, ◌∙◌, subst}
+use Rattle.std.proofs.Common.{◌≡◌, ℕ, ◌*◌, ◌/◌, ◌%◌, ◌^◌, Bool, true, false, not, nat_eq, Option, Some, None, refl, sym, ap, ◌∙◌, subst}
 use Rattle.dream_words.specs.declared.machine.Name.TheVariants as name
 use Rattle.dream_words.specs.Words.{bit_of, sign_extended, shifted_signed}
 use Rattle.run_parts.specs.Effects.{set_word}
@@ -13,6 +13,7 @@ use Rattle.x86_model.specs.declared.effect.Effect.{Effect}
 use Rattle.x86_model.specs.declared.effect.Step.{Step}
 use Rattle.x86_model.specs.Arithmetic.{flag_if, product_overflows}
 use Rattle.x86_model.specs.Effects.{done}
+use Rattle.x86_model.specs.Leads.{first_of}
 use Rattle.x86_model.specs.Operands.{bits_of, value_of, with_part}
 use Rattle.x86_model.specs.WideRows.{times_row, undefined_result, with_pair}
 use Rattle.c_syntax.specs.declared.syntax.CBin.TheVariants as op
@@ -22,9 +23,9 @@ use Rattle.c_syntax.specs.declared.syntax.CFn2.TheVariants.{Sar}
 use Rattle.c_syntax.specs.Value.{word_of}
 use Rattle.c_words.specs.Built.{num, fn2}
 use Rattle.lift_parts.specs.Parts.{temp, reads}
-use Rattle.lift_parts.specs.Shown.{AreNames, Runs}
+use Rattle.lift_parts.specs.Shown.{AreNames, RunsTo}
 use Rattle.lift_parts.specs.Stands.{FlagsStand, StandsFor, state_in}
-use Rattle.lift_parts.proofs.Chains.{runs_append, set_runs}
+use Rattle.lift_parts.proofs.Chains.{first_of_none, runs_by, set_runs, then_runs}
 use Rattle.lift_parts.proofs.Kept.{AfterRead, reads_run}
 use Rattle.lift_parts.proofs.Values.{value_fits}
 use Rattle.lift_parts.proofs.Writes.{part_runs}
@@ -109,9 +110,9 @@ wide_row signed size s a =
     let over = flag_if (overflows signed size x y) in
     record (done a (undefined_result over over)) { regs = with_pair size a.regs (high_part signed size x y) (x * y % 2 ^ bits_of size) }
 
-wide_leads : (signed : Bool) (size : Size) (s : Operand) (a : Step) (w u : World) → Runs (reads size s) w u → AfterRead a w u → Sees size (o.Reg 0) s a u.names
-    → LeadsOn (wide_row signed size s a).go (wide_row signed size s a) (state_in w a.flags) (wide_stmts signed size s) w
-wide_leads signed size s a w u r read h0 =
+wide_leads : (bad : Option ℕ) (signed : Bool) (size : Size) (s : Operand) (a : Step) (w u : World) → RunsTo bad (reads size s) w u → AfterRead a w u → Sees size (o.Reg 0) s a u.names
+    → LeadsOn bad (wide_row signed size s a).go (wide_row signed size s a) (state_in w a.flags) (wide_stmts signed size s) w
+wide_leads bad signed size s a w u r read h0 =
     let x : ℕ = value_of size (o.Reg 0) a in
     let y : ℕ = value_of size s a in
     let is : IsProduct signed size x y = product_is signed size x y (value_fits a u.names h0.names h0.shows size (o.Reg 0)) (value_fits a u.names h0.names h0.shows size s) in
@@ -128,17 +129,18 @@ wide_leads signed size s a w u r read h0 =
     let h4 : Sees size (o.Reg 0) s a u4.names = sees_flag size (o.Reg 0) s a u3.names 0 (bit_of b) (bit_word b) h3 in
     let (t, runs, sets) = pair_runs size (high_part signed size x y) (x * y % 2 ^ bits_of size) u4 h4.names is.low is.high in (
       t,
-      runs_append (reads size s) _ r
+      runs_by bad (first_of bad None) (sym (first_of_none bad)) (then_runs bad (reads size s) _ r
           (set_runs (name.T 1) (product_word signed size (o.Reg 0) s) low (product_value signed size (o.Reg 0) s a u.names h0)
           (set_runs (name.T 2) (high_word signed size (o.Reg 0) s) high (high_is signed size (o.Reg 0) s a u1.names h1 refl)
           (set_runs (name.Flag 4) (wide_overflow signed size) (bit_of b) (wide_overflow_is signed size u2.names low high h2.names refl refl ∙ ap (λ c. Some (bit_of c)) is.overflow)
-          (set_runs (name.Flag 0) (wide_overflow signed size) (bit_of b) (wide_overflow_is signed size u3.names low high h3.names refl refl ∙ ap (λ c. Some (bit_of c)) is.overflow) runs)))),
+          (set_runs (name.Flag 0) (wide_overflow signed size) (bit_of b) (wide_overflow_is signed size u3.names low high h3.names refl refl ∙ ap (λ c. Some (bit_of c)) is.overflow) runs))))),
       record {
         regs = sym (sets.regs ∙ ap (λ r. with_pair size r (high_part signed size x y) (x * y % 2 ^ bits_of size)) read.shows.regs);
         flags = overflow_stands b t.names (sets.flags 0) (sets.flags 4);
         fs = sym (sets.fs ∙ read.fs);
         gs = sym (sets.gs ∙ read.gs);
         mem = sym (sets.mem ∙ read.mem);
+        pages = sym (sets.pages ∙ read.pages);
         left = sym (sets.left ∙ read.left);
         calls = sym (sets.calls ∙ read.calls);
       },
@@ -146,21 +148,21 @@ wide_leads signed size s a w u r read h0 =
 
 -- MUL
 pub mul_goes : (size : Size) (s : Operand) (next : ℕ) → GoesOn (i.Mul size s) next (wide_stmts false size s)
-mul_goes size s next = by_step (i.Mul size s) next (wide_stmts false size s) (λ a w b.
+mul_goes size s next = by_step (i.Mul size s) next (wide_stmts false size s) (λ a. refl) (λ a w b.
     let (u, runs, read, shown) = reads_run size s a w b.names b.bytes b.shows b.first in
-    wide_leads false size s a w u runs read (record { names = read.names; shows = read.shows; first = record { read = λ e. absurd cc }; second = shown }))
+    wide_leads _ false size s a w u runs read (record { names = read.names; shows = read.shows; first = record { read = λ e. absurd cc }; second = shown }))
 
 -- IMUL of one operand
 pub imul_wide_goes : (size : Size) (s : Operand) (next : ℕ) → GoesOn (i.ImulWide size s) next (wide_stmts true size s)
-imul_wide_goes size s next = by_step (i.ImulWide size s) next (wide_stmts true size s) (λ a w b.
+imul_wide_goes size s next = by_step (i.ImulWide size s) next (wide_stmts true size s) (λ a. refl) (λ a w b.
     let (u, runs, read, shown) = reads_run size s a w b.names b.bytes b.shows b.first in
-    wide_leads true size s a w u runs read (record { names = read.names; shows = read.shows; first = record { read = λ e. absurd cc }; second = shown }))
+    wide_leads _ true size s a w u runs read (record { names = read.names; shows = read.shows; first = record { read = λ e. absurd cc }; second = shown }))
 
 -- ---- IMUL of two and of three operands
 
-times_leads : (size : Size) (d : ℕ) (p q s : Operand) (a : Step) (w u : World) → Runs (reads size s) w u → AfterRead a w u → Sees size p q a u.names
-    → let e : Effect = times_row size d (value_of size p a) (value_of size q a) a in LeadsOn e.go e (state_in w a.flags) (times_stmts size d p q s) w
-times_leads size d p q s a w u r read h0 =
+times_leads : (bad : Option ℕ) (size : Size) (d : ℕ) (p q s : Operand) (a : Step) (w u : World) → RunsTo bad (reads size s) w u → AfterRead a w u → Sees size p q a u.names
+    → let e : Effect = times_row size d (value_of size p a) (value_of size q a) a in LeadsOn bad e.go e (state_in w a.flags) (times_stmts size d p q s) w
+times_leads bad size d p q s a w u r read h0 =
     let x : ℕ = value_of size p a in
     let y : ℕ = value_of size q a in
     let is : IsProduct true size x y = product_is true size x y (value_fits a u.names h0.names h0.shows size p) (value_fits a u.names h0.names h0.shows size q) in
@@ -175,27 +177,28 @@ times_leads size d p q s a w u r read h0 =
     let h3 : Sees size p q a u3.names = sees_flag size p q a u2.names 0 (bit_of b) (bit_word b) h2 in
     let (t, runs, sets) = part_runs size d (temp 1) low value u3 h3.names (name_value u3.names (name.T 1)) (product_word_below true size x y) is.low in (
       t,
-      runs_append (reads size s) _ r
+      runs_by bad (first_of bad None) (sym (first_of_none bad)) (then_runs bad (reads size s) _ r
           (set_runs (name.T 1) (product_word true size p q) low (product_value true size p q a u.names h0)
           (set_runs (name.Flag 4) (times_overflow size p q) (bit_of b) (times_overflow_is size p q a u1.names low h1 refl ∙ ap (λ c. Some (bit_of c)) is.overflow)
-          (set_runs (name.Flag 0) (times_overflow size p q) (bit_of b) (times_overflow_is size p q a u2.names low h2 refl ∙ ap (λ c. Some (bit_of c)) is.overflow) runs))),
+          (set_runs (name.Flag 0) (times_overflow size p q) (bit_of b) (times_overflow_is size p q a u2.names low h2 refl ∙ ap (λ c. Some (bit_of c)) is.overflow) runs)))),
       record {
         regs = sym (sets.regs ∙ ap (λ r. with_part size r d value) read.shows.regs);
         flags = overflow_stands b t.names (sets.flags 0) (sets.flags 4);
         fs = sym (sets.fs ∙ read.fs);
         gs = sym (sets.gs ∙ read.gs);
         mem = sym (sets.mem ∙ read.mem);
+        pages = sym (sets.pages ∙ read.pages);
         left = sym (sets.left ∙ read.left);
         calls = sym (sets.calls ∙ read.calls);
       },
     )
 
 pub imul2_goes : (size : Size) (d : ℕ) (s : Operand) (next : ℕ) → GoesOn (i.Imul2 size d s) next (imul2_stmts size d s)
-imul2_goes size d s next = by_step (i.Imul2 size d s) next (imul2_stmts size d s) (λ a w b.
+imul2_goes size d s next = by_step (i.Imul2 size d s) next (imul2_stmts size d s) (λ a. refl) (λ a w b.
     let (u, runs, read, shown) = reads_run size s a w b.names b.bytes b.shows b.first in
-    times_leads size d (o.Reg d) s s a w u runs read (record { names = read.names; shows = read.shows; first = record { read = λ e. absurd cc }; second = shown }))
+    times_leads _ size d (o.Reg d) s s a w u runs read (record { names = read.names; shows = read.shows; first = record { read = λ e. absurd cc }; second = shown }))
 
 pub imul3_goes : (size : Size) (d : ℕ) (s : Operand) (k next : ℕ) → GoesOn (i.Imul3 size d s k) next (imul3_stmts size d s k)
-imul3_goes size d s k next = by_step (i.Imul3 size d s k) next (imul3_stmts size d s k) (λ a w b.
+imul3_goes size d s k next = by_step (i.Imul3 size d s k) next (imul3_stmts size d s k) (λ a. refl) (λ a w b.
     let (u, runs, read, shown) = reads_run size s a w b.names b.bytes b.shows b.first in
-    times_leads size d s (o.Imm k) s a w u runs read (record { names = read.names; shows = read.shows; first = shown; second = record { read = λ e. absurd cc } }))
+    times_leads _ size d s (o.Imm k) s a w u runs read (record { names = read.names; shows = read.shows; first = shown; second = record { read = λ e. absurd cc } }))

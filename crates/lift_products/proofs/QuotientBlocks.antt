@@ -1,5 +1,5 @@
 -- The blocks of quotients are those of their instructions.
-use Rattle.std.proofs.Common.{ℕ, Bool, true, false, List, [], ◌∷◌, refl, lit≤, lit<}
+use Rattle.std.proofs.Common.{ℕ, Bool, true, false, List, [], ◌∷◌, refl, sym, lit≤, lit<}
 use Rattle.std.specs.Prelude.{IsTrue}
 use Rattle.dream_words.specs.declared.machine.Name.TheVariants as name
 use Rattle.x86_inst.specs.declared.Inst.TheVariants as i
@@ -8,7 +8,7 @@ use Rattle.x86_inst.specs.declared.Size.TheVariants.{B, H, W}
 use Rattle.x86_inst.specs.declared.Operand.{Operand}
 use Rattle.x86_formed.specs.Formed.{HasSpelling, is_formed_operand}
 use Rattle.x86_formed.proofs.Spelled.{spelled_is_formed}
-use Rattle.x86_model.specs.Leads.{step_of}
+use Rattle.x86_model.specs.Leads.{refused_read, step_of}
 use Rattle.c_syntax.specs.declared.syntax.CBin.TheVariants as op
 use Rattle.c_syntax.specs.declared.syntax.CCmp.TheVariants as test
 use Rattle.c_syntax.specs.declared.syntax.CExpr.{CExpr}
@@ -22,6 +22,7 @@ use Rattle.micro_ir.specs.Rule.{is_flow_word}
 use Rattle.lift_parts.specs.Lifted.{AreBlocksOf}
 use Rattle.lift_parts.specs.Parts.{low_word, reads, reg, temp}
 use Rattle.lift_parts.specs.Stands.{state_in}
+use Rattle.lift_parts.proofs.Chains.{first_of_none, runs_by}
 use Rattle.lift_parts.proofs.Fit.{AreFit, IsFit, bin_fit, both_hold, deeper, fit_append, fit_word, masked_fit, more_fit, num_fit, reads_fit, reg_fit, shl_fit}
 use Rattle.lift_parts.proofs.FitShapes.{cmp_fit, fn2_fit, fn3_fit, word_if_fit}
 use Rattle.lift_parts.proofs.Kept.{reads_run}
@@ -30,7 +31,7 @@ use Rattle.lift_blocks.specs.Effects.{HasEffect}
 use Rattle.lift_blocks.specs.Ends.{goes_on}
 use Rattle.lift_blocks.proofs.OneBlock.{fit_blocks}
 use Rattle.lift_products.specs.Quotients.{bad_function, bad_word, divide_stmts, divided_word, high_dividend, high_extension, low_dividend, quotient_function, remainder_function, unfit, unfit_unsigned}
-use Rattle.lift_products.proofs.DivisionRuns.{divides_as}
+use Rattle.lift_products.proofs.DivisionRuns.{divides_after}
 use Rattle.lift_products.proofs.WordsFit.{extended_fit, factor_fit, pair_fit, set_more, t_fit, unfit_signed_fit}
 
 -- ---- effects
@@ -40,7 +41,7 @@ div_effect size s at next = record {
   effect = λ w f is h.
       let a = step_of (i.Div size s) next (state_in w f) in
       let (u, runs, read, shown) = reads_run size s a w (names_of_world w is) is.bytes (record { regs = refl; fs = refl; gs = refl }) refl in
-      divides_as false size s a w u runs read (record { names = read.names; shows = read.shows; first = shown; second = shown }) at next;
+      divides_after (refused_read (i.Div size s) (state_in w f)) false size s a w u (runs_by _ _ (sym (first_of_none _)) runs) read (record { names = read.names; shows = read.shows; first = shown; second = shown }) at next;
 }
 
 pub idiv_effect : (size : Size) (s : Operand) (at next : ℕ) → HasEffect (i.Idiv size s) at next (goes_on at (divide_stmts true size s))
@@ -48,7 +49,7 @@ idiv_effect size s at next = record {
   effect = λ w f is h.
       let a = step_of (i.Idiv size s) next (state_in w f) in
       let (u, runs, read, shown) = reads_run size s a w (names_of_world w is) is.bytes (record { regs = refl; fs = refl; gs = refl }) refl in
-      divides_as true size s a w u runs read (record { names = read.names; shows = read.shows; first = shown; second = shown }) at next;
+      divides_after (refused_read (i.Idiv size s) (state_in w f)) true size s a w u (runs_by _ _ (sym (first_of_none _)) runs) read (record { names = read.names; shows = read.shows; first = shown; second = shown }) at next;
 }
 
 -- ---- words are fit

@@ -1,5 +1,5 @@
 -- BT, BTS, BTR, BTC, BSF and BSR lead on as their steps do.
-use Rattle.std.proofs.Common.{◌≡◌, ℕ, zero, suc, ◌+◌, ◌/◌, ◌%◌, ◌^◌, ◌<◌, ◌≤◌, ◌==◌, ◌&&◌, nat_eq, nat_le, nat_lt, Bool, true, false, List, ◌++◌, Some, refl, sym, ap, subst, arith, lit<}
+use Rattle.std.proofs.Common.{◌≡◌, ℕ, zero, suc, ◌+◌, ◌/◌, ◌%◌, ◌^◌, ◌<◌, ◌≤◌, ◌==◌, ◌&&◌, nat_eq, nat_le, nat_lt, Bool, true, false, List, ◌++◌, Option, Some, None, refl, sym, ap, subst, arith, lit<}
 use Rattle.std.specs.Prelude.{if◌then◌else◌}
 use Rattle.std.proofs.lemmas.List.{append_assoc}
 use Rattle.std.proofs.lemmas.Nat.{mod_below}
@@ -7,7 +7,7 @@ use Rattle.dream_words.specs.declared.machine.Flags.{Flags}
 use Rattle.dream_words.specs.declared.machine.Name.TheVariants as name
 use Rattle.dream_words.specs.Words.{low_part, lowest_one, highest_one}
 use Rattle.run_parts.specs.Effects.{set_word}
-use Rattle.run_parts.specs.World.{Names, World}
+use Rattle.run_parts.specs.World.{Names, World, with_name}
 use Rattle.x86_inst.specs.declared.BitOp.{BitOp}
 use Rattle.x86_inst.specs.declared.BitOp.TheVariants.{Bt, Bts, Btr, Btc}
 use Rattle.x86_inst.specs.declared.Inst.TheVariants as i
@@ -17,7 +17,9 @@ use Rattle.x86_inst.specs.declared.Operand.TheVariants as o
 use Rattle.x86_model.specs.declared.effect.Effect.{Effect}
 use Rattle.x86_model.specs.declared.effect.Step.{Step}
 use Rattle.x86_model.specs.Effects.{done, put, stray}
+use Rattle.x86_model.specs.Leads.{after, first_of, refused, refused_store, refused_word}
 use Rattle.x86_model.specs.Operands.{bits_of, value_of}
+use Rattle.x86_model.specs.Reads.{operand_read, pair_read}
 use Rattle.x86_model.specs.Successors.{writes_bit}
 use Rattle.x86_model.specs.WideRows.{bit_flags, bit_value, bit_written, place_of, scan_flags}
 use Rattle.c_syntax.specs.declared.syntax.CExpr.{CExpr}
@@ -26,14 +28,14 @@ use Rattle.c_words.specs.Built.{num}
 use Rattle.c_words.proofs.Layers.{word_layer}
 use Rattle.micro_ir.specs.declared.flow.Stmt.{Stmt}
 use Rattle.lift_parts.specs.Parts.{pair_reads, reads, value_word, writes}
-use Rattle.lift_parts.specs.Shown.{AreNames, Runs, Shows, ShowsRead}
+use Rattle.lift_parts.specs.Shown.{AreNames, Runs, RunsTo, Shows, ShowsRead}
 use Rattle.lift_parts.specs.Stands.{FlagsStand, Stands, state_in}
-use Rattle.lift_parts.proofs.Chains.{none_run, runs_append, set_runs}
+use Rattle.lift_parts.proofs.Chains.{faults_append, first_of_none, none_run, runs_by, set_runs, then_runs}
 use Rattle.lift_parts.proofs.Kept.{AfterRead, flags_stay, pair_reads_run, reads_run}
 use Rattle.lift_parts.proofs.Values.{value_is}
-use Rattle.lift_parts.proofs.Writes.{names_set, shows_flag, writes_run}
-use Rattle.lift_blocks.specs.Effects.{GoesOn, LeadsOn, after}
-use Rattle.lift_blocks.proofs.Common.{KeepsRest, by_step, leads_next, put_go, read_keeps, written_stands}
+use Rattle.lift_parts.proofs.Writes.{names_set, shows_flag, write_after, writes_run}
+use Rattle.lift_blocks.specs.Effects.{GoesOn, LeadsOn}
+use Rattle.lift_blocks.proofs.Common.{KeepsRest, by_step, leads_astray, leads_next, put_go, read_keeps, written_stands}
 use Rattle.lift_blocks.proofs.MoveWords.{num_value}
 use Rattle.lift_strings.specs.BitForms.{bit_stmts, bit_word, keeps_bit, old_bit, place_word, scan_flag, scan_stmts}
 use Rattle.lift_strings.proofs.BitValues.{bit_is, bit_stands, old_is}
@@ -47,18 +49,23 @@ keeps_set a w u n x r = record {
   fs = r.fs;
   gs = r.gs;
   mem = r.mem;
+  pages = r.pages;
   left = r.left;
   calls = r.calls;
 }
 
--- An operand is written after flags were set. The world v, which has these flags, is otherwise as before.
-puts_with : (size : Size) (d : Operand) (x : CExpr) (word value : ℕ) (a : Step) (f : Flags) (before : List Stmt) (w v u : World)
-    → FlagsStand f v.names → Runs before w u → KeepsRest v u → AreNames u.names → Shows a u.names
+-- An operand is written after flags were set. The names v, which have these flags, are otherwise as before.
+puts_with : (bad : Option ℕ) (size : Size) (d : Operand) (x : CExpr) (word value : ℕ) (a : Step) (f : Flags) (before : List Stmt) (w : World) (v : Names) (u : World)
+    → FlagsStand f v → RunsTo bad before w u → KeepsRest (record w { names = v }) u → AreNames u.names → Shows a u.names
     → word_of x u.names ≡ Some word → word < 2 ^ 32 → low_part (bits_of size) word ≡ low_part (bits_of size) value
-    → (t : World) × Runs (before ++ writes size d x) w t × Stands (after (put size d value a (done a f)) (state_in v f)) t
-puts_with size d x word value a f before w v u h r k names shows e l q =
-    let (t, runs, written) = writes_run size d x word value a (done a f) u names shows shows.regs refl e l q in
-    (t, runs_append before (writes size d x) r runs, written_stands size d value a f (done a f) v u t refl h k written)
+    → (t : World) × RunsTo (first_of bad (refused_word w.pages.write (put size d value a (done a f)).store)) (before ++ writes size d x) w t
+    × Stands (after (put size d value a (done a f)) (state_in (record w { names = v }) f)) t
+puts_with bad size d x word value a f before w v u h r k names shows e l q =
+    let (t, runs, written) = writes_run size d x word value a (done a f) u names shows shows.regs refl e l q in (
+      t,
+      write_after bad (put size d value a (done a f)).store before (writes size d x) k.mem k.pages k.calls r runs,
+      written_stands size d value a f (done a f) (record w { names = v }) u t refl h k written,
+    )
 
 -- ---- tests of bits
 
@@ -69,7 +76,7 @@ written_is Bts size d v a e = refl
 written_is Btr size d v a e = refl
 written_is Btc size d v a e = refl
 
-module _ (f : BitOp) (size : Size) (d s : Operand) (a : Step) (w u : World) (runs : Runs (pair_reads size d s) w u) (read : AfterRead a w u) (first : ShowsRead size d a u.names)
+module _ (bad : Option ℕ) (f : BitOp) (size : Size) (d s : Operand) (a : Step) (w u : World) (runs : RunsTo bad (pair_reads size d s) w u) (read : AfterRead a w u) (first : ShowsRead size d a u.names)
     (second : ShowsRead size s a u.names) (flags : FlagsStand a.flags w.names) where
   abbrev index : ℕ
   index = value_of size s a % bits_of size
@@ -95,9 +102,9 @@ module _ (f : BitOp) (size : Size) (d s : Operand) (a : Step) (w u : World) (run
   old_word = let l = old_below in omega arith
 
   -- CF is set
-  set_runs_on : Runs (pair_reads size d s ++ keeps_bit size d s) w kept
+  set_runs_on : RunsTo bad (pair_reads size d s ++ keeps_bit size d s) w kept
   set_runs_on =
-      runs_append (pair_reads size d s) (keeps_bit size d s) runs
+      then_runs bad (pair_reads size d s) (keeps_bit size d s) runs
       (set_runs (name.Flag 0) (old_bit size d s) old (old_is size d s a u.names read.names read.shows first second) (none_run kept))
 
   flags_before : FlagsStand new_flags before.names
@@ -116,16 +123,17 @@ module _ (f : BitOp) (size : Size) (d s : Operand) (a : Step) (w u : World) (run
   abbrev effect : Bool → Effect
   effect b = if b then put size d (bit_value f (bits_of size) (value_of size d a) index) a (done a new_flags) else done a new_flags
 
-  bit_leads : (b : Bool) → LeadsOn (effect b).go (effect b) (state_in w a.flags) (pair_reads size d s ++ (if b then keeps_bit size d s ++ writes size d (bit_word f size d s) else keeps_bit size d s)) w
+  bit_leads : (b : Bool) → LeadsOn bad (effect b).go (effect b) (state_in w a.flags) (pair_reads size d s ++ (if b then keeps_bit size d s ++ writes size d (bit_word f size d s) else keeps_bit size d s)) w
   bit_leads false = (
     kept,
-    set_runs_on,
+    runs_by bad (first_of bad None) (sym (first_of_none bad)) set_runs_on,
     record {
       regs = sym kept_shows.regs;
       flags = flags_kept;
       fs = sym read.fs;
       gs = sym read.gs;
       mem = sym read.mem;
+      pages = sym read.pages;
       left = sym read.left;
       calls = sym read.calls;
     },
@@ -133,17 +141,18 @@ module _ (f : BitOp) (size : Size) (d s : Operand) (a : Step) (w u : World) (run
   bit_leads true =
       let (x, is, fits, low) = bit_is size d s a kept.names kept_names kept_shows (record { read = first.read }) (record { read = second.read }) f in
       let value : ℕ = bit_value f (bits_of size) (value_of size d a) index in
-      let (t, all, stands) = puts_with size d (bit_word f size d s) x value a new_flags (pair_reads size d s ++ keeps_bit size d s) w before kept
+      let (t, all, stands) = puts_with bad size d (bit_word f size d s) x value a new_flags (pair_reads size d s ++ keeps_bit size d s) w before.names kept
       flags_before set_runs_on (keeps_set a w u 0 old read) kept_names kept_shows is fits low in
-      leads_next (effect true) (state_in w a.flags) (pair_reads size d s ++ (keeps_bit size d s ++ writes size d (bit_word f size d s))) w t (put_go size d value a (done a new_flags))
-      (subst (λ xs. Runs xs w t) (append_assoc (pair_reads size d s) (keeps_bit size d s) (writes size d (bit_word f size d s))) all) stands
+      leads_next bad (effect true) (state_in w a.flags) (pair_reads size d s ++ (keeps_bit size d s ++ writes size d (bit_word f size d s))) w t (put_go size d value a (done a new_flags))
+      (subst (λ xs. RunsTo (first_of bad (refused_store (effect true) (state_in w a.flags))) xs w t) (append_assoc (pair_reads size d s) (keeps_bit size d s) (writes size d (bit_word f size d s))) all) stands
 
 -- BT, BTS, BTR and BTC
 pub bit_goes : (f : BitOp) (size : Size) (d s : Operand) (next : ℕ) → GoesOn (i.Bit f size d s) next (bit_stmts f size d s)
-bit_goes f size d s next = by_step (i.Bit f size d s) next (bit_stmts f size d s) (λ a w b.
+bit_goes f size d s next = by_step (i.Bit f size d s) next (bit_stmts f size d s) (λ a. refl) (λ a w b.
     let (u, runs, read, first, second) = pair_reads_run size d s a w b.names b.bytes b.shows b.first in
-    subst (λ e. LeadsOn e.go e (state_in w a.flags) (bit_stmts f size d s) w) (sym (written_is f size d _ a _))
-    (bit_leads f size d s a w u runs read first second b.flags (writes_bit f)))
+    let bad : Option ℕ = refused w.pages.read (pair_read size d s a.regs a.fs a.gs) in
+    subst (λ e. LeadsOn bad e.go e (state_in w a.flags) (bit_stmts f size d s) w) (sym (written_is f size d _ a _))
+    (bit_leads bad f size d s a w u runs read first second b.flags (writes_bit f)))
 
 -- ---- places of bits
 
@@ -174,10 +183,13 @@ place_is : (up : Bool) (e : CExpr) (v : Names) (x : ℕ) → word_of e v ≡ Som
 place_is true e v x h = simp (word_layer, h)
 place_is false e v x h = simp (word_layer, h)
 
--- the world with the flag of a scan
+-- the names with the flag of a scan
+abbrev scanned_names : Bool → Names → Names
+scanned_names true v = v
+scanned_names false v = with_name v (name.Flag 2) 0
+
 abbrev scanned : Bool → World → World
-scanned true w = w
-scanned false w = set_word (name.Flag 2) 0 w
+scanned tz w = record w { names = scanned_names tz w.names }
 
 scan_runs : (tz : Bool) (u : World) → Runs (scan_flag tz) u (scanned tz u)
 scan_runs true u = none_run u
@@ -208,7 +220,7 @@ scan_stands : (tz : Bool) (e : Effect) (w t : World) (f g : Flags) → Stands (a
 scan_stands true e w t f g h = h
 scan_stands false e w t f g h = h
 
-module _ (up : Bool) (size : Size) (d : ℕ) (s : Operand) (tz : Bool) (a : Step) (w u : World) (runs : Runs (reads size s) w u) (read : AfterRead a w u) (shown : ShowsRead size s a u.names) where
+module _ (up : Bool) (size : Size) (d : ℕ) (s : Operand) (tz : Bool) (a : Step) (bad : Option ℕ) (w u : World) (runs : RunsTo bad (reads size s) w u) (read : AfterRead a w u) (shown : ShowsRead size s a u.names) where
   abbrev place : ℕ
   place = place_of up (value_of size s a)
 
@@ -216,23 +228,23 @@ module _ (up : Bool) (size : Size) (d : ℕ) (s : Operand) (tz : Bool) (a : Step
   abbrev found : Bool → Effect
   found none = if none then stray a else put size (o.Reg d) place a (done a (scan_flags tz))
 
-  scan_leads : (none : Bool) → LeadsOn (found none).go (found none) (state_in w a.flags) (scan_stmts up size d s tz) w
-  scan_leads true = tt
+  scan_leads : (none : Bool) → LeadsOn bad (found none).go (found none) (state_in w a.flags) (scan_stmts up size d s tz) w
+  scan_leads true = leads_astray bad a (state_in w a.flags) (scan_stmts up size d s tz) w (faults_append bad (reads size s) _ runs)
   scan_leads false =
       let v : World = scanned tz u in
       let names = scan_names tz u read.names in
       let shows = scan_shows tz a u read.shows in
       let is = place_is up (value_word size s) v.names (value_of size s a) (value_is a v.names names shows size s (scan_read tz size s a u shown)) in
-      let set = runs_append (reads size s) (scan_flag tz) runs (scan_runs tz u) in
-      let (t, all, stands) = puts_with size (o.Reg d) (place_word up (value_word size s)) place place a (scan_flags tz) (reads size s ++ scan_flag tz) w (scanned tz w) v
+      let set = then_runs bad (reads size s) (scan_flag tz) runs (scan_runs tz u) in
+      let (t, all, stands) = puts_with bad size (o.Reg d) (place_word up (value_word size s)) place place a (scan_flags tz) (reads size s ++ scan_flag tz) w (scanned tz w).names v
       (scan_flags_stand tz w) set (scan_keeps tz a w u read) names shows is (place_below up (value_of size s a)) refl in (
         t,
-        subst (λ xs. Runs xs w t) (append_assoc (reads size s) (scan_flag tz) (writes size (o.Reg d) (place_word up (value_word size s)))) all,
+        subst (λ xs. RunsTo (first_of bad None) xs w t) (append_assoc (reads size s) (scan_flag tz) (writes size (o.Reg d) (place_word up (value_word size s)))) all,
         scan_stands tz (found false) w t (scan_flags tz) a.flags stands,
       )
 
 -- BSF and BSR
 pub scan_goes : (up : Bool) (size : Size) (d : ℕ) (s : Operand) (tz : Bool) (next : ℕ) → GoesOn (i.Scan up size d s tz) next (scan_stmts up size d s tz)
-scan_goes up size d s tz next = by_step (i.Scan up size d s tz) next (scan_stmts up size d s tz) (λ a w b.
+scan_goes up size d s tz next = by_step (i.Scan up size d s tz) next (scan_stmts up size d s tz) (λ a. refl) (λ a w b.
     let (u, runs, read, shown) = reads_run size s a w b.names b.bytes b.shows b.first in
-    scan_leads up size d s tz a w u runs read shown (value_of size s a == 0))
+    scan_leads up size d s tz a (refused w.pages.read (operand_read size s a.regs a.fs a.gs)) w u runs read shown (value_of size s a == 0))

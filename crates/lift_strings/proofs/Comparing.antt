@@ -70,6 +70,7 @@ pub record Compared (f : Flags) (w u : World) : Type 0 where
   pub fs : u.names name.Fs ≡ w.names name.Fs
   pub gs : u.names name.Gs ≡ w.names name.Gs
   pub mem : u.mem ≡ w.mem
+  pub pages : u.pages ≡ w.pages
   pub left : u.left ≡ w.left
   pub calls : u.calls ≡ w.calls
 
@@ -119,6 +120,7 @@ module _ (s : Size) (e g : CExpr) (x y : ℕ) (x_fits : x < 2 ^ 32) (y_fits : y 
           fs = refl;
           gs = refl;
           mem = refl;
+          pages = refl;
           left = refl;
           calls = refl;
         },

@@ -14,7 +14,7 @@ use Rattle.x86_inst.specs.declared.Size.{Size}
 use Rattle.x86_model.specs.declared.effect.Effect.{Effect}
 use Rattle.x86_model.specs.declared.effect.Go.{Go}
 use Rattle.x86_model.specs.Arithmetic.{minus_of}
-use Rattle.x86_model.specs.Leads.{stored}
+use Rattle.x86_model.specs.Leads.{after, stored}
 use Rattle.x86_model.specs.Operands.{width_of}
 use Rattle.c_syntax.specs.declared.syntax.CBin.TheVariants as op
 use Rattle.c_syntax.specs.Value.{word_of}
@@ -25,7 +25,6 @@ use Rattle.lift_parts.specs.Stands.{FlagsStand, Stands, state_in}
 use Rattle.lift_parts.proofs.Chains.{none_run, set_runs}
 use Rattle.lift_parts.proofs.Kept.{flags_reg}
 use Rattle.lift_parts.proofs.Writes.{names_set}
-use Rattle.lift_blocks.specs.Effects.{after}
 use Rattle.lift_blocks.proofs.Does.{minus_is}
 use Rattle.lift_blocks.proofs.MoveWords.{bin_value, name_value, num_value}
 use Rattle.lift_strings.specs.Rounds.{counts_down, raises, where_so}
@@ -38,6 +37,7 @@ pub record Reaches (e : Effect) (w u : World) : Type 0 where
   pub fs : u.names name.Fs ≡ w.names name.Fs
   pub gs : u.names name.Gs ≡ w.names name.Gs
   pub mem : u.mem ≡ stored w.mem e.store
+  pub pages : u.pages ≡ w.pages
   pub left : u.left ≡ w.left
   pub calls : u.calls ≡ w.calls
 
@@ -48,6 +48,7 @@ reached_stands e w u f r = record {
   fs = sym r.fs;
   gs = sym r.gs;
   mem = sym r.mem;
+  pages = sym r.pages;
   left = sym r.left;
   calls = sym r.calls;
 }
@@ -66,6 +67,7 @@ reg_reached e w u n x q g l h r = record {
   fs = r.fs;
   gs = r.gs;
   mem = r.mem;
+  pages = r.pages;
   left = r.left;
   calls = r.calls;
 }
