@@ -86,7 +86,7 @@ fn some_instructions(rt: HostRuntime) {
     assert!(rt; decode(&[0x6B, 0xCB, 0xFD]) == Decoded::Inst(imul, 3));
 }
 
-const fn add(n: u32) -> Inst {
+const fn add_to_eax(n: u32) -> Inst {
     Inst::Alu(AluOp::Add, Size::W, EAX, Operand::Imm(n))
 }
 
@@ -99,8 +99,8 @@ fn is(code: Option<Code>, bytes: &[u8]) -> bool {
 
 #[test]
 fn shortest_spellings(rt: HostRuntime) {
-    assert!(rt; is(encode(&add(5)), &[0x83, 0xC0, 0x05]));
-    assert!(rt; is(encode(&add(0x80)), &[0x05, 0x80, 0, 0, 0]));
+    assert!(rt; is(encode(&add_to_eax(5)), &[0x83, 0xC0, 0x05]));
+    assert!(rt; is(encode(&add_to_eax(0x80)), &[0x05, 0x80, 0, 0, 0]));
     assert!(rt; is(encode(&Inst::Xchg(Size::W, EAX, Operand::Reg(1))), &[0x91]));
     // movl %gs:0x14,%eax and lea 8(%eax,%ecx,4),%edx and rep movsl, as GNU as 2.40 has them
     let fixed = Mem {
