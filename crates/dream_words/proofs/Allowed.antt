@@ -70,6 +70,7 @@ module _ (runs : List PageRun) where
         refused = r.refused;
         before = before_more at r.place h r.before;
       }
+
       here : is_in (page_of (at % 2 ^ 32)) runs ≡ false → at % 2 ^ 32 ≡ a → IsFirstBad runs at (suc k) a
       here h same = record {
         place = 0;
@@ -78,6 +79,7 @@ module _ (runs : List PageRun) where
         refused = ap (λ n. is_in (page_of n) runs) (sym same) ∙ h;
         before = λ j l. absurd (let z : ⊥ = omega (arith, l) in z);
       }
+
       pick : (b : Bool) → is_in (page_of (at % 2 ^ 32)) runs ≡ b → (first_bad runs (at + 1) k ≡ Some a → IsFirstBad runs (at + 1) k a) → IsFirstBad runs at (suc k) a
       pick true h rest = later h (rest (sym (step_on runs at k h) ∙ e))
       pick false h rest = here h (same_Some (at % 2 ^ 32) a (sym (step_off runs at k h) ∙ e))
