@@ -31,7 +31,7 @@ module _ (old new : ℕ → Outcome) (ends : (k : ℕ) → IsEnded (old k) → (
   shown k Undecoded e = (0, subst (λ o. AreFront (calls_of o) (calls_of (new 0))) (sym e) tt)
   shown k Stuck e = (0, subst (λ o. AreFront (calls_of o) (calls_of (new 0))) (sym e) tt)
   shown k (Returned r m c) e = ended_shown k (subst IsEnded (sym e) tt)
-  shown k (Faulted v m c) e = ended_shown k (subst IsEnded (sym e) tt)
+  shown k (Faulted v a m c) e = ended_shown k (subst IsEnded (sym e) tt)
   shown k (Asking c) e = ended_shown k (subst IsEnded (sym e) tt)
 
 module _ (machine flow tree : ℕ → Outcome) (a : Agreeing machine flow) (g : GoesAlong flow tree) where

@@ -5,13 +5,16 @@ use Rattle.std.proofs.Math.Path.{fun_ext}
 use Rattle.std.proofs.lemmas.Bool.Decides.{nat_tests}
 use Rattle.dream_words.specs.declared.machine.Name.{Name}
 use Rattle.dream_words.specs.declared.machine.Name.TheVariants.{Reg, Flag, Fs, Gs, T, B, S}
+use Rattle.dream_words.specs.declared.machine.Width.{Width}
 use Rattle.dream_words.specs.declared.outcome.Start.{Start}
 use Rattle.dream_words.specs.declared.outcome.Answer.{Answer}
 use Rattle.dream_words.specs.declared.outcome.Call.{Call}
 use Rattle.dream_words.specs.declared.outcome.Outcome.TheVariants as outcome
+use Rattle.dream_words.specs.Memory.{load, store, bytes_of}
+use Rattle.dream_words.specs.Pages.{first_bad}
 use Rattle.run_parts.specs.World.{World, Names, with_name, answered, start_names, start_world}
 use Rattle.run_parts.specs.Steps.{Next, Halt, Jam, having, then_do}
-use Rattle.run_parts.specs.Effects.{Doing, set_word, answered_by}
+use Rattle.run_parts.specs.Effects.{Doing, set_word, allowing, loading, storing, answered_by}
 use Rattle.c_syntax.specs.declared.syntax.CExpr.{CExpr}
 use Rattle.c_syntax.specs.declared.syntax.CCond.{CCond}
 use Rattle.c_syntax.specs.Run.{word_in, holds, does_ext}
@@ -127,7 +130,20 @@ answered_bare : (left : List Answer) (calls : List Call) (w : World) → answere
 answered_bare [] calls w = refl
 answered_bare (a ∷ rest) calls w = ap (λ (v : Names). Next (record w { names = v; mem = a.mem; left = rest; calls = calls })) (fun_ext (answer_at a w.names))
 
-trap_bare : (vector : ℕ) (b : Bool) (w : World) → (if b then Next (core w) else Halt (outcome.Faulted vector w.mem w.calls)) ≡ core_did (if b then Next w else Halt (outcome.Faulted vector w.mem w.calls))
+-- an access, which reads no name
+allowing_bare : (bad : Option ℕ) (w : World) (d d' : Doing) → d ≡ core_did d' → allowing bad (core w) d ≡ core_did (allowing bad w d')
+allowing_bare None w d d' h = h
+allowing_bare (Some a) w d d' h = refl
+
+load_bare : (n : Name) (width : Width) (at : ℕ) (w : World) → IsTrue (is_flow_target n) → loading n width at (core w) ≡ core_did (loading n width at w)
+load_bare n width at w h = let x = load w.mem at (bytes_of width) in
+    allowing_bare (first_bad w.pages.read at (bytes_of width)) w (Next (set_word n x (core w))) (Next (set_word n x w)) (ap (λ (u : World). Next u) (set_bare n x w h))
+
+store_bare : (width : Width) (at x : ℕ) (w : World) → storing width at x (core w) ≡ core_did (storing width at x w)
+store_bare width at x w = let mem = store w.mem at (bytes_of width) x in
+    allowing_bare (first_bad w.pages.write at (bytes_of width)) w (Next (record (core w) { mem = mem })) (Next (record w { mem = mem })) refl
+
+trap_bare : (vector : ℕ) (b : Bool) (w : World) → (if b then Next (core w) else Halt (outcome.Faulted vector 0 w.mem w.calls)) ≡ core_did (if b then Next w else Halt (outcome.Faulted vector 0 w.mem w.calls))
 trap_bare vector true w = refl
 trap_bare vector false w = refl
 
@@ -144,11 +160,11 @@ stmt_bare (stmt.Set n e) w h =
     having_bare (word_in e (core w)) (word_in e w) _ _ (word_bare e w p.1) (λ x. ap (λ (u : World). Next u) (set_bare n x w p.0))
 stmt_bare (stmt.Load n width e) w h =
     let p = both_true (is_flow_target n) (is_flow_word e) h in
-    having_bare (word_in e (core w)) (word_in e w) _ _ (word_bare e w p.1) (λ at. ap (λ (u : World). Next u) (set_bare n _ w p.0))
+    having_bare (word_in e (core w)) (word_in e w) _ _ (word_bare e w p.1) (λ at. load_bare n width at w p.0)
 stmt_bare (stmt.Store width e f) w h =
     let p = both_true (is_flow_word e) (is_flow_word f) h in
     having_bare (word_in e (core w)) (word_in e w) _ _ (word_bare e w p.0)
-    (λ at. having_bare (word_in f (core w)) (word_in f w) _ _ (word_bare f w p.1) (λ x. refl))
+    (λ at. having_bare (word_in f (core w)) (word_in f w) _ _ (word_bare f w p.1) (λ x. store_bare width at x w))
 stmt_bare (stmt.Ext e) w h = ext_bare e w h
 stmt_bare (stmt.Trap vector e) w h =
     having_bare (word_in e (core w)) (word_in e w) _ _ (word_bare e w (both_true _ (is_flow_word e) h).1) (λ x. trap_bare vector (nat_eq x 0) w)

@@ -5,10 +5,12 @@ use Rattle.dream_words.specs.declared.outcome.Answer.{Answer}
 use Rattle.dream_words.specs.declared.outcome.Call.{Call}
 use Rattle.dream_words.specs.declared.outcome.Outcome.{Outcome}
 use Rattle.dream_words.specs.declared.outcome.Outcome.TheVariants as outcome
+use Rattle.dream_words.specs.Memory.{bytes_of}
+use Rattle.dream_words.specs.Pages.{first_bad}
 use Rattle.dream_words.specs.Same.{IsEnded}
 use Rattle.run_parts.specs.Steps.{Next, Halt, Jam, having, then_do, To, End, Nowhere, arrive}
 use Rattle.run_parts.specs.World.{World}
-use Rattle.run_parts.specs.Effects.{Doing, answered_by}
+use Rattle.run_parts.specs.Effects.{Doing, allowing, answered_by}
 use Rattle.c_syntax.specs.declared.syntax.CExpr.{CExpr}
 use Rattle.c_syntax.specs.Run.{word_in, holds, does_ext}
 use Rattle.micro_ir.specs.declared.flow.Case.{Case}
@@ -38,7 +40,12 @@ answered_ends : (left : List Answer) (calls : List Call) (w : World) → DidEnds
 answered_ends [] calls w = tt
 answered_ends (a ∷ rest) calls w = tt
 
-trap_ends : (b : Bool) (vector : ℕ) (w : World) → DidEnds (if b then Next w else Halt (outcome.Faulted vector w.mem w.calls))
+-- an access, which may fault
+access_ends : (bad : Option ℕ) (w u : World) → DidEnds (allowing bad w (Next u))
+access_ends None w u = tt
+access_ends (Some a) w u = tt
+
+trap_ends : (b : Bool) (vector : ℕ) (w : World) → DidEnds (if b then Next w else Halt (outcome.Faulted vector 0 w.mem w.calls))
 trap_ends true vector w = tt
 trap_ends false vector w = tt
 
@@ -47,8 +54,8 @@ ext_ends e w = having_ends (word_in e w) _ (λ x. answered_ends w.left _ w)
 
 stmt_ends : (s : Stmt) (w : World) → DidEnds (stmt_does s w)
 stmt_ends (stmt.Set n e) w = having_ends (word_in e w) _ (λ x. tt)
-stmt_ends (stmt.Load n width e) w = having_ends (word_in e w) _ (λ x. tt)
-stmt_ends (stmt.Store width e f) w = having_ends (word_in e w) _ (λ at. having_ends (word_in f w) _ (λ x. tt))
+stmt_ends (stmt.Load n width e) w = having_ends (word_in e w) _ (λ at. access_ends (first_bad w.pages.read at (bytes_of width)) w _)
+stmt_ends (stmt.Store width e f) w = having_ends (word_in e w) _ (λ at. having_ends (word_in f w) _ (λ x. access_ends (first_bad w.pages.write at (bytes_of width)) w _))
 stmt_ends (stmt.Ext e) w = ext_ends e w
 stmt_ends (stmt.Trap vector e) w = having_ends (word_in e w) _ (λ x. trap_ends (nat_eq x 0) vector w)
 

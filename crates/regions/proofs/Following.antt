@@ -35,7 +35,7 @@ Starts n s d n' s' = (d ≡ 0) × (n' ≡ n) × (s' ≡ s)
 -- the calls of an end that has come
 shows_calls : (c : List Call) (o : Outcome) → IsEnded o → OutcomeShows c o → Begins c (calls_of o)
 shows_calls c (outcome.Returned r m cs) h s = s
-shows_calls c (outcome.Faulted v m cs) h s = s
+shows_calls c (outcome.Faulted v a m cs) h s = s
 shows_calls c (outcome.Asking cs) h s = s
 shows_calls c (outcome.Going cs) h s = absurd h
 shows_calls c outcome.Strayed h s = absurd h
