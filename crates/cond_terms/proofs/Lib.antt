@@ -1,1 +1,4 @@
+pub mod Induct
 pub mod Layers
+pub mod Conjuncts
+pub mod Excluding

@@ -2,10 +2,12 @@
 //! It is given nothing. It promises copies, whether two terms are the same, and how many literals a term has.
 #![tactic(auto)]
 
+mod exclusion;
 mod laws;
 mod term;
 #[cfg(test)]
 mod tests;
 
+pub use exclusion::exclusive;
 pub use laws::terms_mean_so;
 pub use term::{Lit, Term, copy, same_term, size};
