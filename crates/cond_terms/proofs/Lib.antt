@@ -2,3 +2,4 @@ pub mod Induct
 pub mod Layers
 pub mod Conjuncts
 pub mod Excluding
+pub mod Simplest

@@ -1,3 +1,4 @@
 pub mod Terms
 pub mod Exclusion
+pub mod Simple
 pub mod Laws

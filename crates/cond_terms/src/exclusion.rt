@@ -5,17 +5,7 @@ ghost use Rattle.cond_terms.specs.declared.term.Term.TheVariants as term;
 ghost use Rattle.cond_terms.specs.Terms.{Valuation, term_truth};
 ghost use Rattle.cond_terms.specs.Exclusion.{AskDifferently, Contradict, IsContradicted, HaveContradiction, AreExclusive};
 
-use crate::term::{Lit, Term, is_false, same_lit};
-
-/// Whether a term is this literal.
-fn is_literal(t: &Term, l: Lit) -> bool
-    ensures { IsTrue result ↔ (t.now ≡ term.Lit l) }
-{
-    match t {
-        Term::Lit(m) => same_lit(l, *m),
-        _ => false,
-    }
-}
+use crate::term::{Lit, Term, is_false, is_literal};
 
 /// Whether two literals ask for different values of one variable.
 fn ask_differently(a: Lit, b: Lit) -> bool

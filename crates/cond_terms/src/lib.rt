@@ -4,10 +4,12 @@
 
 mod exclusion;
 mod laws;
+mod simple;
 mod term;
 #[cfg(test)]
 mod tests;
 
 pub use exclusion::exclusive;
 pub use laws::terms_mean_so;
+pub use simple::simplify;
 pub use term::{Lit, Term, copy, same_term, size};

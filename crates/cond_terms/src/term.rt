@@ -101,9 +101,12 @@ pub(crate) fn is_false(t: &Term) -> bool
     matches!(t, Term::False)
 }
 
-/// Whether a term is True itself.
-pub(crate) fn is_true(t: &Term) -> bool
-    ensures { IsTrue result ↔ (t.now ≡ term.True) }
+/// Whether a term is this literal.
+pub(crate) fn is_literal(t: &Term, l: Lit) -> bool
+    ensures { IsTrue result ↔ (t.now ≡ term.Lit l) }
 {
-    matches!(t, Term::True)
+    match t {
+        Term::Lit(m) => same_lit(l, *m),
+        _ => false,
+    }
 }
