@@ -1,6 +1,7 @@
 -- Conjuncts of a term by its parts.
 use Rattle.std.proofs.Common.{◌≡◌, ◌⊎◌, inl, inr, Bool, true, false, refl, sym, ap, ◌∙◌, subst}
 use Rattle.std.proofs.lemmas.Bool.{false≢true}
+use Rattle.cond_terms.specs.declared.term.Lit.{Lit}
 use Rattle.cond_terms.specs.declared.term.Term as made
 use Rattle.cond_terms.specs.declared.term.Term.{Term, Term-F, roll-Term, out-Term}
 use Rattle.cond_terms.specs.declared.term.Term.TheVariants as term
@@ -13,6 +14,25 @@ is_and_layer y = made.fold-roll-Term Bool is_and_at y
 
 pub and_is_and : (a b : Term) → is_and (term.And a b) ≡ true
 and_is_and a b = ap is_and (sym (term.rolls-And a b)) ∙ is_and_layer (Term-F.And a b)
+
+pub true_is_none : is_and term.True ≡ false
+true_is_none = ap is_and (sym term.rolls-True) ∙ is_and_layer Term-F.True
+
+pub false_is_none : is_and term.False ≡ false
+false_is_none = ap is_and (sym term.rolls-False) ∙ is_and_layer Term-F.False
+
+pub lit_is_none : (l : Lit) → is_and (term.Lit l) ≡ false
+lit_is_none l = ap is_and (sym (term.rolls-Lit l)) ∙ is_and_layer (Term-F.Lit l)
+
+pub not_is_none : (a : Term) → is_and (term.Not a) ≡ false
+not_is_none a = ap is_and (sym (term.rolls-Not a)) ∙ is_and_layer (Term-F.Not a)
+
+pub or_is_none : (a b : Term) → is_and (term.Or a b) ≡ false
+or_is_none a b = ap is_and (sym (term.rolls-Or a b)) ∙ is_and_layer (Term-F.Or a b)
+
+-- a term that is no And isn't made by And
+pub never_and : (s t a b : Term) → is_and s ≡ false → t ≡ s → t ≡ term.And a b → ⊥
+never_and s t a b n f e = false≢true (sym n ∙ ap is_and (sym f ∙ e) ∙ and_is_and a b)
 
 -- an And has one first and one second part
 pub same_parts : (a b x y : Term) → term.And a b ≡ term.And x y → (a ≡ x) × (b ≡ y)
@@ -33,7 +53,7 @@ some_second P a b w = (w.0, in_second a b refl w.1, w.2)
 
 -- a conjunct of an And is one of a part
 pub in_a_part : (c a b t : Term) → t ≡ term.And a b → IsConjunct c t → IsConjunct c a ⊎ IsConjunct c b
-in_a_part c a b t e (whole s n) = absurd (false≢true (sym n ∙ ap is_and e ∙ and_is_and a b))
+in_a_part c a b t e (whole s n) = absurd (never_and t t a b n refl e)
 in_a_part c a b t e (in_first x y f h) = inl (subst (IsConjunct c) (same_parts x y a b (sym f ∙ e)).0 h)
 in_a_part c a b t e (in_second x y f h) = inr (subst (IsConjunct c) (same_parts x y a b (sym f ∙ e)).1 h)
 
@@ -43,8 +63,8 @@ some_split P a b w = elim (in_a_part w.0 a b _ refl w.1) [ inl h ↦ inl (w.0, h
 -- of a term that is no And the only conjunct is the term itself
 pub only_itself : (c t : Term) → is_and t ≡ false → IsConjunct c t → c ≡ t
 only_itself c t n (whole e m) = e
-only_itself c t n (in_first x y f h) = absurd (false≢true (sym n ∙ ap is_and f ∙ and_is_and x y))
-only_itself c t n (in_second x y f h) = absurd (false≢true (sym n ∙ ap is_and f ∙ and_is_and x y))
+only_itself c t n (in_first x y f h) = absurd (never_and t t x y n refl f)
+only_itself c t n (in_second x y f h) = absurd (never_and t t x y n refl f)
 
 pub some_whole : (P : Term → Type 0) (t : Term) → is_and t ≡ false → P t → Some P t
 some_whole P t n p = (t, whole refl n, p)
@@ -87,3 +107,16 @@ tells_by_second P q r a b t s u e f h off g k = (
 -- the test of any other term by that of the term itself
 pub tells_itself : (P : Term → Type 0) (r : Bool) (t : Term) → ((x y : Term) → t ≡ term.And x y → ⊥) → (r ≡ true → P t) × (P t → r ≡ true) → Tells P r t
 tells_itself P r t n h = (λ holds. some_whole P t (no_and t n) (h.0 holds), λ w. h.1 (whole_only P t (no_and t n) w))
+
+-- the conjuncts that are a given term
+pub as_some : (c t : Term) → IsConjunct c t → Some (λ d. c ≡ d) t
+as_some c t w = (c, w, refl)
+
+pub of_some : (c t : Term) → Some (λ d. c ≡ d) t → IsConjunct c t
+of_some c t w = subst (λ z. IsConjunct z t) (sym w.2) w.1
+
+pub tells_conjunct : (c t : Term) (r : Bool) → Tells (λ d. c ≡ d) r t → (r ≡ true → IsConjunct c t) × (IsConjunct c t → r ≡ true)
+tells_conjunct c t r h = (λ holds. of_some c t (h.0 holds), λ w. h.1 (as_some c t w))
+
+pub tells_some : (c t : Term) (r : Bool) → (r ≡ true → IsConjunct c t) × (IsConjunct c t → r ≡ true) → Tells (λ d. c ≡ d) r t
+tells_some c t r h = (λ holds. as_some c t (h.0 holds), λ w. h.1 (of_some c t w))

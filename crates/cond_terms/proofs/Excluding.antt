@@ -12,7 +12,7 @@ use Rattle.cond_terms.specs.Exclusion.{IsConjunct, whole, in_first, in_second, A
 use Rattle.cond_terms.proofs.Layers.{truth_layer, truth_false, truth_lit, truth_and}
 
 -- both sides of what is true
-both_true : (a b : Bool) → (a && b) ≡ true → (a ≡ true) × (b ≡ true)
+pub both_true : (a b : Bool) → (a && b) ≡ true → (a ≡ true) × (b ≡ true)
 both_true true b h = (refl, h)
 both_true false b h = absurd (false≢true h)
 

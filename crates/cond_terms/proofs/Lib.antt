@@ -3,3 +3,4 @@ pub mod Layers
 pub mod Conjuncts
 pub mod Excluding
 pub mod Simplest
+pub mod Factoring

@@ -1,4 +1,5 @@
 pub mod Terms
 pub mod Exclusion
 pub mod Simple
+pub mod Factored
 pub mod Laws

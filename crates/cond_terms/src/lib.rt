@@ -3,6 +3,7 @@
 #![tactic(auto)]
 
 mod exclusion;
+mod factored;
 mod laws;
 mod simple;
 mod term;
@@ -10,6 +11,7 @@ mod term;
 mod tests;
 
 pub use exclusion::exclusive;
+pub use factored::factor;
 pub use laws::terms_mean_so;
 pub use simple::simplify;
 pub use term::{Lit, Term, copy, same_term, size};

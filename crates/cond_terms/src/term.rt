@@ -110,3 +110,10 @@ pub(crate) fn is_literal(t: &Term, l: Lit) -> bool
         _ => false,
     }
 }
+
+/// Whether a term is True itself.
+pub(crate) fn is_true(t: &Term) -> bool
+    ensures { IsTrue result ↔ (t.now ≡ term.True) }
+{
+    matches!(t, Term::True)
+}
