@@ -1,5 +1,6 @@
 //! Terms: conditions over variables that stand for words, as they guard the parts of a tree.
-//! It is given nothing. It promises copies, whether two terms are the same, and how many literals a term has.
+//! It is given nothing. It promises copies, whether two terms are the same or exclude each other, how many literals a term has,
+//! and terms of the same truth that are simple, or have common conjuncts taken out.
 #![tactic(auto)]
 
 mod exclusion;
