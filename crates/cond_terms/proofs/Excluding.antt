@@ -1,5 +1,5 @@
 -- Terms that are seen to exclude each other are true together under no valuation.
-use Rattle.std.proofs.Common.{◌≡◌, ◌⊎◌, inl, inr, ℕ, ◌≢◌, Bool, true, false, not, ◌&&◌, nat_eq, refl, sym, ap, ◌∙◌, subst, arith}
+use Rattle.std.proofs.Common.{◌≡◌, inl, inr, ℕ, ◌≢◌, Bool, true, false, not, ◌&&◌, nat_eq, refl, sym, ap, ◌∙◌, arith}
 use Rattle.std.proofs.lemmas.Bool.{false≢true}
 use Rattle.std.proofs.lemmas.Bool.Decides.{nat_tests}
 use Rattle.cond_terms.specs.declared.term.Lit.{Lit}
@@ -7,7 +7,7 @@ use Rattle.cond_terms.specs.declared.term.Lit.TheVariants as lit
 use Rattle.cond_terms.specs.declared.term.Term as made
 use Rattle.cond_terms.specs.declared.term.Term.{Term, Term-F, roll-Term, out-Term}
 use Rattle.cond_terms.specs.declared.term.Term.TheVariants as term
-use Rattle.cond_terms.specs.Terms.{Valuation, lit_truth, truth_at, term_truth}
+use Rattle.cond_terms.specs.Terms.{Valuation, lit_truth, term_truth}
 use Rattle.cond_terms.specs.Exclusion.{IsConjunct, whole, in_first, in_second, AskDifferently, ContradictAt, Contradict, AreExclusive}
 use Rattle.cond_terms.proofs.Layers.{truth_layer, truth_false, truth_lit, truth_and}
 

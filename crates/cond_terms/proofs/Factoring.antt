@@ -1,6 +1,5 @@
 -- Common conjuncts taken out of an Or: the truth is kept, and there are no more literals.
-use Rattle.std.proofs.Common.{◌≡◌, ◌≢◌, ◌⊎◌, inl, inr, ℕ, ◌+◌, ◌≤◌, Bool, true, false, not, ◌&&◌, ◌||◌, refl, sym, ap, ◌∙◌, subst, arith}
-use Rattle.std.proofs.lemmas.Bool.{false≢true}
+use Rattle.std.proofs.Common.{◌≡◌, ◌≢◌, ◌⊎◌, inl, inr, ◌+◌, Bool, true, false, not, ◌&&◌, ◌||◌, refl, sym, ap, ◌∙◌, subst, arith}
 use Rattle.cond_terms.specs.declared.term.Lit.{Lit}
 use Rattle.cond_terms.specs.declared.term.Term.{Term}
 use Rattle.cond_terms.specs.declared.term.Term.TheVariants as term
@@ -8,8 +7,8 @@ use Rattle.cond_terms.specs.Terms.{Valuation, term_truth, literals}
 use Rattle.cond_terms.specs.Exclusion.{is_and, IsConjunct, in_first, in_second}
 use Rattle.cond_terms.specs.Factored.{ShareNone, IsFactored, always, never, literal, negated, both, either, IsBeside, Each, IsParted, IsFactoredOr, IsFactoredForm}
 use Rattle.cond_terms.proofs.Conjuncts.{same_parts, in_a_part, only_itself, never_and, true_is_none, false_is_none, lit_is_none, not_is_none, or_is_none}
-use Rattle.cond_terms.proofs.Excluding.{both_true, conjunct_true}
-use Rattle.cond_terms.proofs.Layers.{truth_true, truth_false, truth_lit, truth_not, truth_and, truth_or, literals_true, literals_false, literals_lit, literals_not, literals_and, literals_or}
+use Rattle.cond_terms.proofs.Excluding.{conjunct_true}
+use Rattle.cond_terms.proofs.Layers.{truth_true, truth_not, truth_and, truth_or, literals_true, literals_not, literals_and, literals_or}
 
 -- tables of truth
 and_true : (b : Bool) → (b && true) ≡ b

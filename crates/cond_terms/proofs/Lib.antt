@@ -4,3 +4,4 @@ pub mod Conjuncts
 pub mod Excluding
 pub mod Simplest
 pub mod Factoring
+pub mod Guarding

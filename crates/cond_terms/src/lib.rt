@@ -5,6 +5,7 @@
 
 mod exclusion;
 mod factored;
+mod guards;
 mod laws;
 mod simple;
 mod term;
@@ -13,6 +14,7 @@ mod tests;
 
 pub use exclusion::exclusive;
 pub use factored::factor;
-pub use laws::terms_mean_so;
+pub use guards::{Edge, Edges, Guard};
+pub use laws::{guards_tell, terms_mean_so};
 pub use simple::simplify;
 pub use term::{Lit, Term, copy, same_term, size};
