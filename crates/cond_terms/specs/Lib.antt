@@ -1,2 +1,6 @@
 pub mod Terms
+pub mod Exclusion
+pub mod Simple
+pub mod Factored
+pub mod Guards
 pub mod Laws

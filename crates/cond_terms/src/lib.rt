@@ -1,9 +1,18 @@
 //! Terms: conditions over variables that stand for words, as they guard the parts of a tree.
-//! It is given nothing. It promises copies, whether two terms are the same, and how many literals a term has.
+//! It is given nothing. It promises copies, whether two terms are the same or exclude each other, how many literals a term has,
+//! and terms of the same truth that are simple, or have common conjuncts taken out.
 #![tactic(auto)]
 
+mod exclusion;
+mod factored;
+mod guards;
 mod laws;
+mod simple;
 mod term;
 
-pub use laws::terms_mean_so;
+pub use exclusion::exclusive;
+pub use factored::factor;
+pub use guards::{Edge, Edges, Guard};
+pub use laws::{guards_tell, terms_mean_so};
+pub use simple::simplify;
 pub use term::{Lit, Term, copy, same_term, size};

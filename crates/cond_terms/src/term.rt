@@ -1,6 +1,7 @@
 //! Terms as plain data.
 
 ghost use Rattle.std.specs.Prelude.{◌≡◌, ◌<◌, ◌^◌, ◌↔◌, IfOk, IsTrue};
+ghost use Rattle.cond_terms.specs.declared.term.Term.TheVariants as term;
 ghost use Rattle.cond_terms.specs.Terms.{literals};
 
 use sqlite_items::Boxed;
@@ -64,7 +65,7 @@ pub fn copy(alloc: Global, t: &Term) -> Result<Term, AllocError>
 }
 
 /// Whether two literals are the same.
-fn same_lit(a: Lit, b: Lit) -> bool
+pub(crate) fn same_lit(a: Lit, b: Lit) -> bool
     ensures { IsTrue result ↔ (a ≡ b) }
 {
     match (a, b) {
@@ -91,4 +92,28 @@ pub fn same_term(a: &Term, b: &Term) -> bool
         }
         _ => false,
     }
+}
+
+/// Whether a term is False itself.
+pub(crate) fn is_false(t: &Term) -> bool
+    ensures { IsTrue result ↔ (t.now ≡ term.False) }
+{
+    matches!(t, Term::False)
+}
+
+/// Whether a term is this literal.
+pub(crate) fn is_literal(t: &Term, l: Lit) -> bool
+    ensures { IsTrue result ↔ (t.now ≡ term.Lit l) }
+{
+    match t {
+        Term::Lit(m) => same_lit(l, *m),
+        _ => false,
+    }
+}
+
+/// Whether a term is True itself.
+pub(crate) fn is_true(t: &Term) -> bool
+    ensures { IsTrue result ↔ (t.now ≡ term.True) }
+{
+    matches!(t, Term::True)
 }
