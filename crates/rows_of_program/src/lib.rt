@@ -12,6 +12,8 @@ mod flows;
 #[cfg(test)]
 mod header;
 #[cfg(test)]
+mod page_rights;
+#[cfg(test)]
 mod refusals;
 #[cfg(test)]
 mod side_by_side;
