@@ -81,9 +81,10 @@ pub record IsReadFault (i : Reading) (path : List ℕ) : Type 0 where
   pub cause : Rose i.faults i.faults_now ⊎ IsUnheld i.held path
   pub within : limit < i.got_now → i.got_now ≡ i.got
 
--- more bytes than the limit were taken of the file, and it has more
+-- More bytes than the limit were taken of the file, and it has more. No call on it failed before.
 pub record IsTooLarge (i : Reading) (path : List ℕ) : Type 0 where
   pub got : limit < i.got_now
+  pub quiet : i.faults_now ≡ i.faults
   pub held : Holds i.held path (λ bytes. limit < length bytes)
 
 -- the file at the path was taken whole, within the limit, and its bytes are such

@@ -41,7 +41,7 @@ pub record TakesAll (bytes : List ℕ) (left : Option (List ℕ)) (got_now : ℕ
 -- why not all the bytes that are left were taken
 abbrev pub StopsTaking : LoadFault → Option (List ℕ) → ℕ → ℕ → ℕ → Type 0
 StopsTaking Fault left got_now before now = Rose before now × (got_now ≤ limit)
-StopsTaking TooLarge left got_now before now = (limit < got_now) × ((all : List ℕ) → left ≡ Some all → limit < length all)
+StopsTaking TooLarge left got_now before now = (limit < got_now) × (now ≡ before) × ((all : List ℕ) → left ≡ Some all → limit < length all)
 StopsTaking Memory left got_now before now = Unit {0}
 
 -- why a file could not be loaded

@@ -1,6 +1,6 @@
 //! Reading a file whole.
 
-ghost use Rattle.std.specs.Prelude.{◌≡◌, ◌≤◌, length, IfOk, IfErr};
+ghost use Rattle.std.specs.Prelude.{◌≡◌, ◌≤◌, length, IfOk, IfErr, OnOk};
 ghost use Rattle.dream_top.specs.Answers.{reading_of, Loads};
 ghost use Rattle.dream_top.specs.Loading.{TakesPiece, StopsPiece, TakesAll, StopsTaking, StopsLoading};
 
@@ -35,6 +35,7 @@ fn take_piece<F: Files>(
         (F.left files.old) (F.left files.new) (F.got files.old) (F.got files.new)) }
     ensures err { IfErr result (λ e. StopsPiece e
         (F.faults files.old) (F.faults files.new) (F.got files.old) (F.got files.new)) }
+    ensures quiet { OnOk result (F.faults files.new ≡ F.faults files.old) }
     ensures later { F.faults files.old ≤ F.faults files.new }
     ensures held { F.held files.new ≡ F.held files.old }
 {

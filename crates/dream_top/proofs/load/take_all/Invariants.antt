@@ -11,7 +11,7 @@ invariant-loop-bytes g l =
       count : files.got l.files ≡ length l.bytes.items;
       small : length l.bytes.items ≤ limit;
       consumed : Consumes (files.left l.fn.files) (files.left l.files) l.bytes.items;
-      later : files.faults l.fn.files ≤ files.faults l.files;
+      quiet : files.faults l.files ≡ files.faults l.fn.files;
       held : files.held l.files ≡ files.held l.fn.files;
     }
 
