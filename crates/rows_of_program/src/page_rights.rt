@@ -125,10 +125,10 @@ fn a_load_that_nothing_reads_stays(rt: HostRuntime) -> Result<(), Fail> {
     let code = b"\x85\x44\x24\x04\xc3";
     let m = image(alloc, code)?;
     let f = function(alloc, &m, code)?;
-    let mut loads = 0;
+    let mut loads: u32 = 0;
     for s in f.body.as_slice() {
         if matches!(s, CStmt::Load(_, _, _)) {
-            loads += 1;
+            loads = loads.wrapping_add(1);
         }
     }
     assert_eq!(rt; loads, 1);
