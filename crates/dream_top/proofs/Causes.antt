@@ -16,7 +16,6 @@ use Rattle.c_syntax.specs.declared.syntax.CFun.{CFun}
 use Rattle.c_syntax.specs.Text.{canonical_text}
 use Rattle.c_syntax.specs.Stands.{StandsFor, OneFunction}
 use Rattle.c_read.specs.Refusals.{IsRefusedAt}
-use Rattle.c_read.specs.Answers.{OnePlace}
 use Rattle.flow_graph.specs.Place.{NamedPlace, NamedAfter, IsLeastPlace, HasNoPlace}
 use Rattle.dream_engine.specs.Agreement.{IsDecompiled}
 use Rattle.run_lines.specs.StartWords.{given_by}
@@ -367,8 +366,8 @@ made_written P NoMemory o w = inr (inl refl)
 made_written P WriteFault o w = inr (inr (refl, w.2.rose))
 made_written P s o w = absurd w.0
 
-pub each_cause_has_its_answer : OneFunction → OnePlace → EachCauseHasItsAnswer
-each_cause_has_its_answer one_function one_place = record {
+pub each_cause_has_its_answer : OneFunction → EachCauseHasItsAnswer
+each_cause_has_its_answer one_function = record {
   usage = λ i o s a. a.0;
   unheld = λ i o c path s un e a. by_path ((s ≡ ReadFault) ⊎ (s ≡ NoMemory)) c s i o path e a
       (λ P f same b. fault_or_memory P i o f s (subst (λ p. IsUnheld i.held p) (sym same) un) b) (λ b. tidy_unheld i o path s un b);
