@@ -1,0 +1,4 @@
+pub mod Uses
+pub mod Alike
+pub mod Keeps
+pub mod Laws
