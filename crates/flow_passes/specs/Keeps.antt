@@ -22,7 +22,7 @@ pub record InRange (start : Start) (answers : List Answer) : Type 0 where
   pub fs : start.fs < 2 ^ 32
   pub gs : start.gs < 2 ^ 32
   pub mem : AreBytes start.mem
-  pub answers : AreAnswers answers
+  pub answered : AreAnswers answers
 
 -- no run is stuck
 abbrev pub NeverStuck : (ℕ → Outcome) → Type 0
