@@ -5,3 +5,5 @@ pub mod Excluding
 pub mod Simplest
 pub mod Factoring
 pub mod Guarding
+pub mod Placing
+pub mod Along

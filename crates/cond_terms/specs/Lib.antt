@@ -3,4 +3,5 @@ pub mod Exclusion
 pub mod Simple
 pub mod Factored
 pub mod Guards
+pub mod Reaching
 pub mod Laws

@@ -6,7 +6,10 @@
 mod exclusion;
 mod factored;
 mod guards;
+mod large;
 mod laws;
+mod places;
+mod reached;
 mod simple;
 mod term;
 
@@ -14,5 +17,6 @@ pub use exclusion::exclusive;
 pub use factored::factor;
 pub use guards::{Edge, Edges, Guard};
 pub use laws::{guards_tell, terms_mean_so};
+pub use reached::reaching;
 pub use simple::simplify;
 pub use term::{Lit, Term, copy, same_term, size};
