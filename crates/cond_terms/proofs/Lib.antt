@@ -7,3 +7,4 @@ pub mod Factoring
 pub mod Guarding
 pub mod Placing
 pub mod Along
+pub mod Ordered

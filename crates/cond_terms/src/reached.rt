@@ -8,7 +8,7 @@ ghost use Rattle.cond_terms.specs.Reaching.{IsWay, HaveSources, IsAnyWay, IsShor
 
 use crate::guards::{Edge, Edges, Guard};
 use crate::large::is_large;
-use crate::places::{places_of, ways_in};
+use crate::places::{above, places_of, ways_in};
 use crate::factored::factor;
 use crate::simple::{joined, simplify};
 use crate::term::{Lit, Term, copy};
@@ -126,8 +126,9 @@ pub fn reaching(
     if edges.len() > u32::MAX as usize {
         return Err(AllocError);
     }
-    let places = places_of(alloc, g.count(), order)?;
-    let ways = ways_in(alloc, g.count(), edges)?;
+    let count = above(order);
+    let places = places_of(alloc, count, order)?;
+    let ways = ways_in(alloc, count, edges)?;
     let entry = g.entry();
     let mut guards = Vec::new(alloc);
     let mut named = 0;
