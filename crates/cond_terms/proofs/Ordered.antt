@@ -1,8 +1,9 @@
 -- The guards of the nodes of an order, one after another.
-use Rattle.std.proofs.Common.{◌≡◌, ◌≢◌, ℕ, zero, suc, ◌+◌, ◌<◌, ◌≤◌, ◌∙◌, ◌⊎◌, inl, inr, ⊎_elim, sym, ap, subst, refl, arith, Bool, true, false, List, [], ◌∷◌, ◌++◌, length, get_or, Some, nat_eq, All}
-use Rattle.std.specs.Prelude.{Contains, slice_get, slice_index, ◌↔◌}
+use Rattle.std.proofs.Common.{◌≡◌, ◌≢◌, ℕ, zero, suc, ◌+◌, ◌<◌, ◌≤◌, ◌∙◌, ◌⊎◌, inl, inr, ⊎_elim, sym, ap, subst, refl, arith, Bool, true, false, List, [], ◌∷◌, ◌++◌, length, get_or, Some, nat_eq, All, map}
+use Rattle.std.specs.Prelude.{Contains, slice_get, slice_index, slice_index_or, ◌↔◌}
 use Rattle.std.proofs.lemmas.Bool.Decides.{nat_tests}
 use Rattle.std.proofs.lemmas.Option.{same_Some, slice_get_read, slice_get_within, get_or_from_slice_get}
+use Rattle.std.proofs.lemmas.List.{length-map}
 use Rattle.std.proofs.lemmas.List.Elements.{All-contains}
 use Rattle.graph_order.specs.Graph.{Digraph, HasEdge, IsReached, step}
 use Rattle.graph_order.specs.Order.{IsTopologicalOrder}
@@ -12,8 +13,8 @@ use Rattle.cond_terms.specs.declared.guards.Guard.{Guard}
 use Rattle.cond_terms.specs.declared.guards.Guard.TheVariants as guard
 use Rattle.cond_terms.specs.Terms.{Valuation, term_truth}
 use Rattle.cond_terms.specs.Guards.{term_of, read_of, names_of, IsTaken, AreEdgesOf, IsGuardAt, NamesTell, NamesSet, TellTaken, Comes, AreGuards, IsNamedAs, AreNamed}
-use Rattle.cond_terms.specs.Reaching.{ArePlaces, LeadsTo, HaveSources, ComesAlong, IsGuardMade}
-use Rattle.cond_terms.proofs.Placing.{same_at}
+use Rattle.cond_terms.specs.Reaching.{ArePlaces, LeadsTo, AreWaysIn, HaveSources, ComesAlong, IsGuardMade}
+use Rattle.cond_terms.proofs.Placing.{same_at, at_image}
 use Rattle.cond_terms.proofs.Guarding.{guards_tell}
 
 -- ---- a list and one element more
@@ -107,15 +108,17 @@ module _ (g : Digraph) (edges : List Edge) (order : List ℕ) (o : IsTopological
 
     pub have_sources : HaveSources edges places guards ways
     have_sources way named =
-        let l = (has way).0 named in
-        (slice_get_within edges way l.edge l.edge_at, λ e there.
-            let same : l.edge ≡ e = same_at edges way way l.edge e refl l.edge_at there in
-            let listed = at_listed edges e way there in
-            let j = source_place e listed in
-            let early = source_before e j.0 k n listed (ap (λ (x : Edge). x.to) (sym same) ∙ l.here) j.1 at in
-            let is = source_is e listed j.0 j.1 in
-            let low = sources_below count below e listed in
-            (omega (arith, low, ps.size), omega (arith, early, is, size)))
+        let l = (has way).0 named in (
+          slice_get_within edges way l.edge l.edge_at,
+          λ e there.
+              let same : l.edge ≡ e = same_at edges way way l.edge e refl l.edge_at there in
+              let listed = at_listed edges e way there in
+              let j = source_place e listed in
+              let early = source_before e j.0 k n listed (ap (λ (x : Edge). x.to) (sym same) ∙ l.here) j.1 at in
+              let is = source_is e listed j.0 j.1 in
+              let low = sources_below count below e listed in
+              (omega (arith, low, ps.size), omega (arith, early, is, size)),
+        )
 
     comes_from : (v : Valuation) → ComesAlong edges places guards ways v → Comes edges order guards n v
     comes_from v c =
@@ -191,11 +194,12 @@ module _ (g : Digraph) (edges : List Edge) (order : List ℕ) (o : IsTopological
             (at_push guards made its j stands.guarded);
         others = λ j i its v stands other. ⊎_elim
             (λ q. let told = p.others j i its v (record { node = stands.node; guarded = q.1 }) other in
-                (λ h. comes_still i v (told.0 h), λ c. told.1 (came_before j i v stands.node (omega (arith, q.0, size)) c)))
+            (λ h. comes_still i v (told.0 h), λ c. told.1 (came_before j i v stands.node (omega (arith, q.0, size)) c)))
             (λ q. let same : n ≡ i = same_at order k j n i (sym (q.0 ∙ size)) at stands.node in
-                let told = m.others (is_other (λ e. other (sym same ∙ e))) v in
-                (λ h. subst (λ x. Comes edges order more x v) same (comes_still n v (comes_from v (told.0 (ap (λ x. term_truth (term_of x) v) q.1 ∙ h)))),
-                λ c. ap (λ x. term_truth (term_of x) v) (sym q.1) ∙ told.1 (comes_along v (came_before k n v at (omega arith) (subst (λ x. Comes edges order more x v) (sym same) c)))))
+            let told = m.others (is_other (λ e. other (sym same ∙ e))) v in (
+              λ h. subst (λ x. Comes edges order more x v) same (comes_still n v (comes_from v (told.0 (ap (λ x. term_truth (term_of x) v) q.1 ∙ h)))),
+              λ c. ap (λ x. term_truth (term_of x) v) (sym q.1) ∙ told.1 (comes_along v (came_before k n v at (omega arith) (subst (λ x. Comes edges order more x v) (sym same) c))),
+            ))
             (at_push guards made its j stands.guarded);
         names = named_push first guards made p.names (subst (λ x. IsNamedAs x made) (called ∙ ap (λ x. first + x) p.count) m.named);
         count = omega (arith, p.count, names_push guards made);
@@ -218,3 +222,36 @@ module _ (g : Digraph) (edges : List Edge) (order : List ℕ) (o : IsTopological
 
   pub tell_taken : (guards : List Guard) → AreGuards g.entry edges order guards → TellTaken g.entry edges order guards
   tell_taken guards gs k n its v stands set = guards_tell g edges order guards o es gs k n its v stands (set_names_tell guards gs v k set)
+
+-- ---- a turn of the loop: the node at place k, and the list of the ways into it
+
+pub record IsTurn {V : Type 0} (f : V → List ℕ) (g : Digraph) (edges : List Edge) (order : List ℕ) (count : ℕ) (places : List ℕ) (lists : List V) (guards : List Guard) (k n : ℕ) (ways : List ℕ) : Type 0 where
+  pub in_order : IsTopologicalOrder g order
+  pub along : AreEdgesOf g edges
+  pub below : All (λ m. m < count) order
+  pub places_are : ArePlaces count order places
+  pub ways_are : AreWaysIn count edges (map f lists)
+  pub size : length guards ≡ k
+  pub at : slice_get order k ≡ Some n
+  pub list : V
+  pub list_is : list ≡ get_or lists n list
+  pub same_ways : ways ≡ f list
+
+module _ {V : Type 0} (f : V → List ℕ) (g : Digraph) (edges : List Edge) (order : List ℕ) (count : ℕ) (places : List ℕ) (lists : List V) (guards : List Guard) (k n : ℕ) (ways : List ℕ)
+    (t : IsTurn f g edges order count places lists guards k n ways) where
+  pub node_below : n < count
+  node_below = All-contains (λ m. m < count) order n t.below (at_listed order n k t.at)
+
+  the_ways : (way : ℕ) → (Contains ways way ↔ LeadsTo edges way n)
+  the_ways way =
+      let image : ways ≡ slice_index_or (map f lists) n [] = t.same_ways ∙ at_image f lists n t.list (omega (arith, node_below, t.ways_are.size, length-map lists f)) t.list_is in
+      subst (λ l. Contains l way ↔ LeadsTo edges way n) (sym image) (t.ways_are.has way n)
+
+  pub turn_sources : HaveSources edges places guards ways
+  turn_sources = have_sources g edges order t.in_order t.along count t.below places t.places_are guards k n t.size t.at ways the_ways
+
+  pub turn_guard : (made : Guard) (first named name entry : ℕ) → AreGuardsSoFar g.entry edges order guards first named → name ≡ first + named → entry ≡ g.entry → IsGuardMade (nat_eq n entry) edges places guards ways name made
+      → AreGuardsSoFar g.entry edges order (guards ++ made ∷ []) first (named + names_of made)
+  turn_guard made first named name entry p called same m =
+      one_more_guard g edges order t.in_order t.along count t.below places t.places_are guards k n t.size t.at ways the_ways made first named name p called
+      (subst (λ e. IsGuardMade (nat_eq n e) edges places guards ways name made) same m)

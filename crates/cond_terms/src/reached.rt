@@ -6,10 +6,10 @@ ghost use Rattle.cond_terms.specs.Simple.{IsSimple};
 ghost use Rattle.cond_terms.specs.Guards.{read_of, names_of, AreEdgesOf, AreGuards, AreNamed, TellTaken};
 ghost use Rattle.cond_terms.specs.Reaching.{IsWay, HaveSources, IsAnyWay, IsShortened, IsGuardMade};
 
+use crate::factored::factor;
 use crate::guards::{Edge, Edges, Guard};
 use crate::large::is_large;
 use crate::places::{above, places_of, ways_in};
-use crate::factored::factor;
 use crate::simple::{joined, simplify};
 use crate::term::{Lit, Term, copy};
 use graph_order::{Graph, NodeId};
@@ -135,7 +135,15 @@ pub fn reaching(
     for &node in order {
         let ways = &ways[node.0 as usize];
         let name = first + named as u32;
-        let guard = guard_of(alloc, node.0 == entry.0, edges, &places, &guards, ways, name)?;
+        let guard = guard_of(
+            alloc,
+            node.0 == entry.0,
+            edges,
+            &places,
+            &guards,
+            ways,
+            name,
+        )?;
         named += names_of(&guard);
         guards.push(guard)?;
     }
