@@ -1,20 +1,26 @@
 -- The Or of the ways along some edges.
-use Rattle.std.proofs.Common.{◌≡◌, ℕ, zero, suc, ◌+◌, ◌-◌, ◌<◌, ◌≤◌, ◌∙◌, ◌⊎◌, inl, inr, ⊎_elim, sym, ap, subst, refl, arith, Bool, true, false, ◌&&◌, ◌||◌, List, [], ◌∷◌, ◌++◌, length, get_or, take, drop, Some, Result, Ok, Err, IfOk, length-drop}
-use Rattle.std.specs.Prelude.{Contains, slice_get, slice_index, ◌↔◌}
+use Rattle.std.proofs.Common.{◌≡◌, ℕ, zero, suc, ◌+◌, ◌-◌, ◌/◌, ◌^◌, ◌<◌, ◌≤◌, ◌∙◌, ◌⊎◌, inl, inr, ⊎_elim, sym, ap, subst, refl, arith, Bool, true, false, ◌&&◌, ◌||◌, List, [], ◌∷◌, ◌++◌, length, get_or, take, drop, Some, Result, Ok, Err, IfOk, length-drop}
+use Rattle.std.specs.Prelude.{◌==◌, Contains, slice_get, slice_index, ◌↔◌}
 use Rattle.std.proofs.lemmas.Option.{slice_get_read}
-use Rattle.std.proofs.lemmas.List.{take-append-drop, take_all}
-use Rattle.std.proofs.lemmas.List.Elements.{Contains-append_cases, Contains-append_left, Contains-append_right, Contains-get_or}
+use Rattle.std.proofs.Math.Nat.{pow-suc}
+use Rattle.std.proofs.lemmas.Bool.{false≢true}
+use Rattle.std.proofs.lemmas.Bool.Decides.{nat_tests}
+use Rattle.std.proofs.lemmas.List.{length-take, take-append-drop, take_all}
+use Rattle.std.proofs.lemmas.List.Elements.{Contains-append_cases, Contains-append_left, Contains-append_right, Contains-get_or, All-contains}
 use Rattle.cond_terms.specs.declared.term.Term.{Term}
 use Rattle.cond_terms.specs.declared.guards.Edge.{Edge}
 use Rattle.cond_terms.specs.declared.guards.Guard.{Guard}
-use Rattle.cond_terms.specs.Terms.{Valuation, term_truth}
+use Rattle.cond_terms.specs.declared.guards.Guard.TheVariants as guard
+use Rattle.cond_terms.specs.Terms.{Valuation, term_truth, literals}
 use Rattle.cond_terms.specs.declared.term.Term.TheVariants as term
 use Rattle.cond_terms.specs.Simple.{IsSimple, IsJoined}
-use Rattle.cond_terms.proofs.Layers.{truth_and}
+use Rattle.cond_terms.proofs.Layers.{truth_false, truth_and, literals_and}
+use Rattle.cond_terms.proofs.Nested.{nesting_false}
+use Rattle.cond_terms.proofs.Shallow.{simple_is_shallow}
 use Rattle.cond_terms.specs.Guards.{term_of, read_of}
-use Rattle.cond_terms.specs.Reaching.{HaveSources, ComesAlong, IsWay, IsAnyWay}
+use Rattle.cond_terms.specs.Reaching.{HaveSources, ComesAlong, IsWay, IsAnyWay, IsShortened}
 use Rattle.cond_terms.proofs.Excluding.{both_true}
-use Rattle.cond_terms.proofs.Placing.{same_at}
+use Rattle.cond_terms.proofs.Placing.{same_at, at_listed}
 
 -- ---- parts of a list
 
@@ -51,18 +57,44 @@ pub second_true : (a b : Bool) → b ≡ true → (a || b) ≡ true
 second_true true b h = refl
 second_true false b h = h
 
--- two facts of one result
-pub of_both : {X Y : Type 0} (r : Result X Y) (P Q R : X → Type 0) → ((x : X) → P x → Q x → R x) → IfOk r P → IfOk r Q → IfOk r R
-of_both (Ok x) P Q R f p q = f x p q
-of_both (Err e) P Q R f p q = p
+-- three facts of one result
+pub of_three : {X Y : Type 0} (r : Result X Y) (P Q R S : X → Type 0) → ((x : X) → P x → Q x → R x → S x) → IfOk r P → IfOk r Q → IfOk r R → IfOk r S
+of_three (Ok x) P Q R S f p q r = f x p q r
+of_three (Err e) P Q R S f p q r = p
+
+-- whether a list is empty, and whether it has one element
+pub none : (n : ℕ) → true ≡ (n == 0) → n ≡ 0
+none n e = grind (arith, nat_tests)
+
+pub many : (n : ℕ) → false ≡ (n == 0) → (n ≡ 1 → ⊥) → 2 ≤ n
+many zero e h = absurd (let z : ⊥ = cc in z)
+many (suc zero) e h = absurd (h refl)
+many (suc (suc n)) e h = omega arith
+
+-- two halves of a list are half as long
+halves : (n d : ℕ) → 2 ≤ n → n ≤ 2 ^ d → (e : ℕ) × (d ≡ e + 1) × (n / 2 ≤ 2 ^ e) × (n - n / 2 ≤ 2 ^ e)
+halves n zero h k = absurd (let one : 2 ^ 0 ≡ 1 = refl in let z : ⊥ = omega (arith, one, h, k) in z)
+halves n (suc e) h k = (let power = pow-suc 2 e in (e, omega arith, omega (arith, power, k), omega (arith, power, k)))
+
+-- ---- guards
+
+-- a simple term of at most 64 literals, of the same truth as another
+pub short_guard : (t copied factored made : Term) (name : ℕ) → copied ≡ t → ((v : Valuation) → term_truth factored v ≡ term_truth copied v) → ((v : Valuation) → term_truth made v ≡ term_truth factored v)
+    → IsSimple made → (64 < literals made → ⊥) → IsShortened t name (guard.Term made)
+short_guard t copied factored made name e f h simple small = record {
+  truth = λ v. h v ∙ f v ∙ ap (λ x. term_truth x v) e;
+  named = omega (arith, small);
+  shallow = λ most low deep. omega (arith, simple_is_shallow made simple, small, low);
+}
 
 -- ---- ways
 
 -- the And of what is read of a guard and of a term
-pub way_made : (source : Guard) (t a b made : Term) → a ≡ read_of source → b ≡ t → ((v : Valuation) → term_truth made v ≡ term_truth (term.And a b) v) → IsSimple made → IsWay source t made
-way_made source t a b made e f truth simple = record {
+pub way_made : (source : Guard) (t a b made : Term) → a ≡ read_of source → b ≡ t → ((v : Valuation) → term_truth made v ≡ term_truth (term.And a b) v) → literals made ≤ literals (term.And a b) → IsSimple made → IsWay source t made
+way_made source t a b made e f truth no_larger simple = record {
   truth = λ v. truth v ∙ truth_and a b v ∙ ap (λ x. term_truth x v && term_truth b v) e ∙ ap (λ x. term_truth (read_of source) v && term_truth x v) f;
   simple = simple;
+  no_larger = omega (arith, no_larger, literals_and a b, ap literals e, ap literals f);
 }
 
 module _ (edges : List Edge) (places : List ℕ) (guards : List Guard) where
@@ -108,6 +140,10 @@ module _ (edges : List Edge) (places : List ℕ) (guards : List Guard) where
           w.truth v ∙ ap (λ b. b && term_truth e.term v) (ap (λ g. term_truth (read_of g) v) (sym its) ∙ c.true_source) ∙ ap (λ (x : Edge). term_truth x.term v) (sym edge) ∙ c.true_term),
     );
     simple = w.simple;
+    shallow = λ a b d small few.
+        let term = All-contains (λ (x : Edge). literals x.term ≤ a) edges e small.0 (at_listed edges e (get_or ways 0 0) at) in
+        let read = All-contains (λ its. literals (read_of its) ≤ b) guards source small.1 (at_listed guards source (slice_index places e.from) from) in
+        omega (arith, simple_is_shallow made w.simple, w.no_larger, term, read);
   }
 
   pub one_way : (ways : List ℕ) → HaveSources edges places guards ways → length ways ≡ 1 → (e : Edge) → e ≡ get_or edges (get_or ways 0 0) e → (j : ℕ) → j ≡ e.from → (source : Guard) → source ≡ get_or guards (get_or places j 0) source
@@ -118,9 +154,18 @@ module _ (edges : List Edge) (places : List ℕ) (guards : List Guard) where
       (slice_get_read guards (length guards) (get_or places j 0) source refl (one_source ways have one e is j same).1 read) in
       one_way_at ways e source made one at from w
 
-  pub two_halves : (ways : List ℕ) (h : ℕ) (a b made : Term) → IsAnyWay edges places guards (take h ways) a → IsAnyWay edges places guards (take (length ways - h) (drop h ways)) b → IsJoined false a b made
-      → IsAnyWay edges places guards ways made
-  two_halves ways h a b made p q j =
+  -- nothing comes along no edges
+  pub no_way : (ways : List ℕ) → length ways ≡ 0 → IsAnyWay edges places guards ways term.False
+  no_way ways none = record {
+    truth = λ v. ((λ h. absurd (false≢true (sym (truth_false v) ∙ h))), (λ c. absurd (omega (arith, c.named.1, none))));
+    simple = inr (inl refl);
+    shallow = λ a b d small few. omega (arith, nesting_false);
+  }
+
+  pub two_halves : (ways : List ℕ) (a b made : Term) → 2 ≤ length ways → IsAnyWay edges places guards (take (length ways / 2) ways) a
+      → IsAnyWay edges places guards (take (length ways - length ways / 2) (drop (length ways / 2) ways)) b → IsJoined false a b made → IsAnyWay edges places guards ways made
+  two_halves ways a b made many p q j =
+      let h = length ways / 2 in
       let rest : take (length ways - h) (drop h ways) ≡ drop h ways = rest_is ways h in
       record {
         truth = λ v. (
@@ -134,4 +179,9 @@ module _ (edges : List Edge) (places : List ℕ) (guards : List Guard) where
               (front_or_rest h ways c.way c.named)),
         );
         simple = j.simple p.simple q.simple;
+        shallow = λ x y d small few.
+            let less = halves (length ways) d many few in
+            let first = p.shallow x y less.0 small (omega (arith, length-take h ways, less.2)) in
+            let second = q.shallow x y less.0 small (omega (arith, ap length rest, length-drop h ways, less.3)) in
+            omega (arith, j.no_deeper, first, second, less.1);
       }

@@ -1,20 +1,24 @@
 -- The guards of the nodes of an order, one after another.
-use Rattle.std.proofs.Common.{◌≡◌, ◌≢◌, ℕ, zero, suc, ◌+◌, ◌<◌, ◌≤◌, ◌∙◌, ◌⊎◌, inl, inr, ⊎_elim, sym, ap, subst, refl, arith, Bool, true, false, List, [], ◌∷◌, ◌++◌, length, get_or, Some, nat_eq, All, map}
+use Rattle.std.proofs.Common.{◌≡◌, ◌≢◌, ℕ, zero, suc, ◌+◌, ◌^◌, ◌<◌, ◌≤◌, ◌∙◌, ◌⊎◌, inl, inr, ⊎_elim, sym, ap, subst, refl, arith, Bool, true, false, List, [], ◌∷◌, ◌++◌, length, get_or, Some, nat_eq, All, map}
 use Rattle.std.specs.Prelude.{Contains, slice_get, slice_index, slice_index_or, ◌↔◌}
 use Rattle.std.proofs.lemmas.Bool.Decides.{nat_tests}
-use Rattle.std.proofs.lemmas.Option.{same_Some, slice_get_read, slice_get_within, get_or_from_slice_get}
+use Rattle.std.proofs.lemmas.Option.{same_Some, slice_get_within}
 use Rattle.std.proofs.lemmas.List.{length-map}
-use Rattle.std.proofs.lemmas.List.Elements.{All-contains}
+use Rattle.std.proofs.lemmas.List.Elements.{All-contains, All-nil, All-cons, All-push, All-weaker}
 use Rattle.graph_order.specs.Graph.{Digraph, HasEdge, IsReached, step}
 use Rattle.graph_order.specs.Order.{IsTopologicalOrder}
 use Rattle.cond_terms.specs.declared.term.Term.{Term}
+use Rattle.cond_terms.specs.declared.term.Lit.TheVariants as lit
 use Rattle.cond_terms.specs.declared.guards.Edge.{Edge}
 use Rattle.cond_terms.specs.declared.guards.Guard.{Guard}
 use Rattle.cond_terms.specs.declared.guards.Guard.TheVariants as guard
-use Rattle.cond_terms.specs.Terms.{Valuation, term_truth}
-use Rattle.cond_terms.specs.Guards.{term_of, read_of, names_of, IsTaken, AreEdgesOf, IsGuardAt, NamesTell, NamesSet, TellTaken, Comes, AreGuards, IsNamedAs, AreNamed}
+use Rattle.cond_terms.specs.Terms.{Valuation, term_truth, literals}
+use Rattle.cond_terms.specs.Nesting.{nesting}
+use Rattle.cond_terms.specs.Guards.{term_of, read_of, names_of, IsTaken, AreEdgesOf, IsGuardAt, NamesTell, NamesSet, TellTaken, Comes, AreGuards, IsNamedAs, AreNamed, ArePlain, AreShallow}
 use Rattle.cond_terms.specs.Reaching.{ArePlaces, LeadsTo, AreWaysIn, HaveSources, ComesAlong, IsGuardMade}
-use Rattle.cond_terms.proofs.Placing.{same_at, at_image}
+use Rattle.cond_terms.proofs.Placing.{same_at, listed_at, at_listed, at_image}
+use Rattle.cond_terms.proofs.Layers.{literals_lit}
+use Rattle.cond_terms.proofs.Nested.{plain_is_small}
 use Rattle.cond_terms.proofs.Guarding.{guards_tell}
 
 -- ---- a list and one element more
@@ -29,12 +33,6 @@ pub kept_by_push : {X : Type 0} (xs ys : List X) (y : X) (j : ℕ) → slice_get
 kept_by_push [] ys y j e = absurd (let z : ⊥ = cc in z)
 kept_by_push (z ∷ xs) ys y zero e = e
 kept_by_push (z ∷ xs) ys y (suc j) e = kept_by_push xs ys y j e
-
-pub listed_at : {X : Type 0} (xs : List X) (x : X) (c : Contains xs x) → slice_get xs c.0 ≡ Some x
-listed_at xs x c = slice_get_read xs (length xs) c.0 x refl c.1 (sym c.2)
-
-pub at_listed : {X : Type 0} (xs : List X) (x : X) (j : ℕ) → slice_get xs j ≡ Some x → Contains xs x
-at_listed xs x j e = (j, slice_get_within xs j x e, get_or_from_slice_get xs j x x e)
 
 -- ---- names
 
@@ -66,6 +64,15 @@ named_push next [] its p q = (subst (λ n. IsNamedAs n its) (let e : next + 0 �
 named_push next (other ∷ rest) its p q =
     (p.0, named_push (next + names_of other) rest its p.1 (subst (λ n. IsNamedAs n its) (let e : next + (names_of other + names_in rest) ≡ next + names_of other + names_in rest = omega arith in e) q))
 
+-- what is read of a guard that is named as it has to be is small
+small_read : (name : ℕ) (its : Guard) → IsNamedAs name its → literals (read_of its) ≤ 64
+small_read name (guard.Term t) p = p
+small_read name (guard.Named x t) p = omega (arith, literals_lit (lit.Bool x))
+
+pub small_reads : (next : ℕ) (guards : List Guard) → AreNamed next guards → All (λ its. literals (read_of its) ≤ 64) guards
+small_reads next [] p = All-nil (λ its. literals (read_of its) ≤ 64)
+small_reads next (its ∷ rest) p = All-cons (λ x. literals (read_of x) ≤ 64) its rest (small_read next its p.0) (small_reads (next + names_of its) rest p.1)
+
 -- ---- guards of an order so far
 
 -- the guards that there are so far are right, and so are their names
@@ -74,6 +81,7 @@ pub record AreGuardsSoFar (entry : ℕ) (edges : List Edge) (order : List ℕ) (
   pub others : (k n : ℕ) (its : Guard) (v : Valuation) → IsGuardAt order guards k n its → n ≢ entry → ((term_truth (term_of its) v ≡ true) ↔ Comes edges order guards n v)
   pub names : AreNamed first guards
   pub count : named ≡ names_in guards
+  pub shallow : (a d : ℕ) → All (λ e. literals e.term ≤ a) edges → length edges ≤ 2 ^ d → AreShallow (64 + a + d) guards
 
 none_there : {X : Type 0} (k : ℕ) (x : X) → slice_get [] k ≡ Some x → ⊥
 none_there k x e = let z : ⊥ = cc in z
@@ -84,6 +92,7 @@ no_guards entry edges order first = record {
   others = λ k n its v stands. absurd (none_there k its stands.guarded);
   names = tt;
   count = sym no_names;
+  shallow = λ a d small few. All-nil (λ its. nesting (term_of its) ≤ 64 + a + d);
 }
 
 module _ (g : Digraph) (edges : List Edge) (order : List ℕ) (o : IsTopologicalOrder g order) (es : AreEdgesOf g edges) where
@@ -102,7 +111,7 @@ module _ (g : Digraph) (edges : List Edge) (order : List ℕ) (o : IsTopological
   targets_below count below e listed = All-contains (λ n. n < count) order e.to below ((o.reached e.to).1 (step e.from (es e listed).0 (es e listed).1))
 
   module _ (count : ℕ) (below : All (λ n. n < count) order) (places : List ℕ) (ps : ArePlaces count order places) (guards : List Guard) (k n : ℕ) (size : length guards ≡ k) (at : slice_get order k ≡ Some n)
-      (ways : List ℕ) (has : (way : ℕ) → (Contains ways way ↔ LeadsTo edges way n)) where
+      (ways : List ℕ) (has : (way : ℕ) → (Contains ways way ↔ LeadsTo edges way n)) (few : length ways ≤ length edges) where
     source_is : (e : Edge) → Contains edges e → (j : ℕ) → slice_get order j ≡ Some e.from → slice_index places e.from ≡ j
     source_is e listed j stands = o.once (slice_index places e.from) j e.from (ps.stands j e.from stands) stands
 
@@ -203,6 +212,7 @@ module _ (g : Digraph) (edges : List Edge) (order : List ℕ) (o : IsTopological
             (at_push guards made its j stands.guarded);
         names = named_push first guards made p.names (subst (λ x. IsNamedAs x made) (called ∙ ap (λ x. first + x) p.count) m.named);
         count = omega (arith, p.count, names_push guards made);
+        shallow = λ a d small fit. All-push (λ its. nesting (term_of its) ≤ 64 + a + d) guards made (p.shallow a d small fit) (m.shallow a d (small, small_reads first guards p.names) (omega (arith, few, fit)));
       }
 
   -- the guards of the whole order
@@ -242,16 +252,26 @@ module _ {V : Type 0} (f : V → List ℕ) (g : Digraph) (edges : List Edge) (or
   pub node_below : n < count
   node_below = All-contains (λ m. m < count) order n t.below (at_listed order n k t.at)
 
+  image : ways ≡ slice_index_or (map f lists) n []
+  image = t.same_ways ∙ at_image f lists n t.list (omega (arith, node_below, t.ways_are.size, length-map lists f)) t.list_is
+
   the_ways : (way : ℕ) → (Contains ways way ↔ LeadsTo edges way n)
-  the_ways way =
-      let image : ways ≡ slice_index_or (map f lists) n [] = t.same_ways ∙ at_image f lists n t.list (omega (arith, node_below, t.ways_are.size, length-map lists f)) t.list_is in
-      subst (λ l. Contains l way ↔ LeadsTo edges way n) (sym image) (t.ways_are.has way n)
+  the_ways way = subst (λ l. Contains l way ↔ LeadsTo edges way n) (sym image) (t.ways_are.has way n)
+
+  few_ways : length ways ≤ length edges
+  few_ways = subst (λ l. length l ≤ length edges) (sym image) (t.ways_are.few n)
 
   pub turn_sources : HaveSources edges places guards ways
-  turn_sources = have_sources g edges order t.in_order t.along count t.below places t.places_are guards k n t.size t.at ways the_ways
+  turn_sources = have_sources g edges order t.in_order t.along count t.below places t.places_are guards k n t.size t.at ways the_ways few_ways
 
   pub turn_guard : (made : Guard) (first named name entry : ℕ) → AreGuardsSoFar g.entry edges order guards first named → name ≡ first + named → entry ≡ g.entry → IsGuardMade (nat_eq n entry) edges places guards ways name made
       → AreGuardsSoFar g.entry edges order (guards ++ made ∷ []) first (named + names_of made)
   turn_guard made first named name entry p called same m =
-      one_more_guard g edges order t.in_order t.along count t.below places t.places_are guards k n t.size t.at ways the_ways made first named name p called
+      one_more_guard g edges order t.in_order t.along count t.below places t.places_are guards k n t.size t.at ways the_ways few_ways made first named name p called
       (subst (λ e. IsGuardMade (nat_eq n e) edges places guards ways name made) same m)
+
+-- where each edge's term is plain, the guards are shallow
+pub plain_are_shallow : (entry : ℕ) (edges : List Edge) (order : List ℕ) (guards : List Guard) (first named : ℕ) → AreGuardsSoFar entry edges order guards first named → length edges ≤ 2 ^ 32 → ArePlain edges → AreShallow 100 guards
+plain_are_shallow entry edges order guards first named p few plain =
+    All-weaker (λ its. nesting (term_of its) ≤ 64 + 1 + 32) (λ its. nesting (term_of its) ≤ 100) (λ its h. omega (arith, h)) guards
+    (p.shallow 1 32 (λ k e h. plain_is_small (get_or edges k e).term (plain k e h)) few)

@@ -1,5 +1,5 @@
 -- The guards of the nodes of a graph without cycles.
-use Rattle.std.specs.Prelude.{◌≡◌, ◌≢◌, ◌↔◌, ℕ, ◌+◌, ◌<◌, ◌≤◌, true, List, [], ◌∷◌, length, Contains, slice_get, Some}
+use Rattle.std.specs.Prelude.{◌≡◌, ◌≢◌, ◌↔◌, ℕ, ◌+◌, ◌<◌, ◌≤◌, true, List, [], ◌∷◌, length, Contains, slice_get, Some, All}
 use Rattle.graph_order.specs.Graph.{Digraph, HasEdge, IsReached}
 use Rattle.graph_order.specs.Order.{IsTopologicalOrder}
 use Rattle.cond_terms.specs.declared.term.Lit.TheVariants as lit
@@ -9,6 +9,7 @@ use Rattle.cond_terms.specs.declared.guards.Edge.{Edge}
 use Rattle.cond_terms.specs.declared.guards.Guard.{Guard}
 use Rattle.cond_terms.specs.declared.guards.Guard.TheVariants as guard
 use Rattle.cond_terms.specs.Terms.{Valuation, term_truth, literals}
+use Rattle.cond_terms.specs.Nesting.{nesting, IsPlain}
 
 -- the term of a guard
 abbrev pub term_of : Guard → Term
@@ -86,3 +87,11 @@ IsNamedAs name (guard.Named x t) = (64 < literals t) × (x ≡ name)
 abbrev pub AreNamed : ℕ → List Guard → Type 0
 AreNamed next [] = Unit
 AreNamed next (its ∷ rest) = IsNamedAs next its × AreNamed (next + names_of its) rest
+
+-- each edge's term is True, a literal or the Not of a literal
+abbrev pub ArePlain : List Edge → Type 0
+ArePlain edges = All (λ e. IsPlain e.term) edges
+
+-- no guard has more than so many And, Or and Not nested in one another
+abbrev pub AreShallow : ℕ → List Guard → Type 0
+AreShallow most guards = All (λ its. nesting (term_of its) ≤ most) guards

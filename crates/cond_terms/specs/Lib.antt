@@ -1,4 +1,5 @@
 pub mod Terms
+pub mod Nesting
 pub mod Exclusion
 pub mod Simple
 pub mod Factored

@@ -3,7 +3,7 @@
 ghost use Rattle.std.specs.Prelude.{◌≡◌, ◌+◌, ◌^◌, ◌≤◌, IfOk, length};
 ghost use Rattle.graph_order.specs.Order.{IsTopologicalOrder};
 ghost use Rattle.cond_terms.specs.Simple.{IsSimple};
-ghost use Rattle.cond_terms.specs.Guards.{read_of, names_of, AreEdgesOf, AreGuards, AreNamed, TellTaken};
+ghost use Rattle.cond_terms.specs.Guards.{read_of, names_of, AreEdgesOf, AreGuards, AreNamed, TellTaken, ArePlain, AreShallow};
 ghost use Rattle.cond_terms.specs.Reaching.{IsWay, HaveSources, IsAnyWay, IsShortened, IsGuardMade};
 
 use crate::factored::factor;
@@ -121,6 +121,7 @@ pub fn reaching(
     ensures guards { IfOk result (λ made. AreGuards g.now.entry edges.now.list order.now.items made.items) }
     ensures taken { IfOk result (λ made. TellTaken g.now.entry edges.now.list order.now.items made.items) }
     ensures named { IfOk result (λ made. AreNamed first made.items) }
+    ensures shallow { IfOk result (λ made. ArePlain edges.now.list → AreShallow 100 made.items) }
 {
     let edges = edges.list.as_slice();
     if edges.len() > u32::MAX as usize {

@@ -16,4 +16,4 @@ loop-place-preserved c =
     (ap (λ (x : Edge). x.to) c.edge.view_is) c.index_mut.ensures.value c.in_ok-push.ensures.items
 
 pub returns : goal.returns
-returns c = WaysUpTo-end c.args.count c.loop-place.place c.args.edges.now _ c.loop-place.invariant (omega (arith, c.loop-place-test.false))
+returns c = WaysUpTo-end c.args.count c.loop-place.place c.args.edges.now _ c.loop-place.invariant (omega (arith, c.loop-place-test.false, c.loop-place.auto.place-end))

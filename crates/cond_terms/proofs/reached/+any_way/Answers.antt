@@ -3,7 +3,7 @@ use Rattle.std.specs.Prelude.{Contains}
 use Rattle.std.proofs.lemmas.Result.{IfOk-weaker}
 use Rattle.std.proofs.lemmas.List.Elements.{Contains-get_or}
 use Rattle.cond_terms.specs.declared.guards.Edge.{Edge}
-use Rattle.cond_terms.proofs.Along.{one_source, one_way, two_halves, in_front, in_rest, rest_is}
+use Rattle.cond_terms.proofs.Along.{none, many, one_source, one_way, no_way, two_halves, in_front, in_rest, rest_is}
 use Rattle.cond_terms.proofs.reached.+any_way.Goals as goal
 
 pub bounds-edges-ways : goal.bounds-edges-ways
@@ -35,5 +35,8 @@ any_way-requires-2 t c = (search rules, λ way named. c.requires way (in_rest (l
 pub returns : goal.returns
 returns t c =
     IfOk-weaker c.joined.result _ _
-    (λ m j. two_halves c.args.edges.now c.args.places.now c.args.guards.now c.args.ways.now _ c.in_ok-first.first c.in_ok-second.second m c.in_ok-first.ensures c.in_ok-second.ensures j)
+    (λ m j. two_halves c.args.edges.now c.args.places.now c.args.guards.now c.args.ways.now c.in_ok-first.first c.in_ok-second.second m (many (length c.args.ways.now) c.if-is_empty.ensures c.if-ways-eq1.false) c.in_ok-first.ensures c.in_ok-second.ensures j)
     c.joined.ensures
+
+pub returns-then-is_empty : goal.returns-then-is_empty
+returns-then-is_empty t c = no_way c.args.edges.now c.args.places.now c.args.guards.now c.args.ways.now (none (length c.args.ways.now) c.if-is_empty.ensures)

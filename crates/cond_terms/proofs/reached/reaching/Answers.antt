@@ -2,9 +2,9 @@ use Rattle.std.proofs.Common.{◌≡◌, ℕ, ◌+◌, ◌<◌, ◌∙◌, sym, 
 use Rattle.std.proofs.lemmas.Option.{slice_get_read}
 use Rattle.std.proofs.lemmas.List.Elements.{Contains-get_or}
 use Rattle.cond_terms.specs.declared.guards.Guard.{Guard}
-use Rattle.cond_terms.specs.Guards.{AreEdgesOf}
+use Rattle.cond_terms.specs.Guards.{AreEdgesOf, ArePlain}
 use Rattle.cond_terms.specs.Reaching.{ArePlaces, HaveSources, IsGuardMade}
-use Rattle.cond_terms.proofs.Ordered.{AreGuardsSoFar, no_guards, few_names, targets_below, IsTurn, turn_sources, turn_guard, all_guards, tell_taken}
+use Rattle.cond_terms.proofs.Ordered.{AreGuardsSoFar, no_guards, few_names, targets_below, IsTurn, turn_sources, turn_guard, all_guards, tell_taken, plain_are_shallow}
 use Rattle.cond_terms.proofs.reached.reaching.Goals as goal
 
 pub ways_in-requires-clause-inside : goal.ways_in-requires-clause-inside
@@ -107,3 +107,8 @@ pub returns-clause-taken : goal.returns-clause-taken
 returns-clause-taken c =
     let edges = c.args.edges.now.list in
     tell_taken c.args.g.now edges c.args.order.now.items c.requires.in_order c.requires.along c.loop-node.guards.items (returns-clause-guards c)
+
+pub returns-clause-shallow : goal.returns-clause-shallow
+returns-clause-shallow c = λ plain.
+    plain_are_shallow c.args.g.now.entry c.as_slice-edges.result.now c.args.order.now.items c.loop-node.guards.items c.args.first c.loop-node.named c.loop-node.invariant.right
+    (omega (arith, c.if-edges.false)) (subst ArePlain (sym c.as_slice-edges.ensures) plain)
