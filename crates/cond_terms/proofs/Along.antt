@@ -1,6 +1,6 @@
 -- The Or of the ways along some edges.
-use Rattle.std.proofs.Common.{◌≡◌, ℕ, zero, suc, ◌+◌, ◌-◌, ◌/◌, ◌^◌, ◌<◌, ◌≤◌, ◌∙◌, ◌⊎◌, inl, inr, ⊎_elim, sym, ap, subst, refl, arith, Bool, true, false, ◌&&◌, ◌||◌, List, [], ◌∷◌, ◌++◌, length, get_or, take, drop, Some, Result, Ok, Err, IfOk, length-drop}
-use Rattle.std.specs.Prelude.{◌==◌, Contains, slice_get, slice_index, ◌↔◌}
+use Rattle.std.proofs.Common.{◌≡◌, ℕ, zero, suc, ◌+◌, ◌-◌, ◌/◌, ◌^◌, ◌<◌, ◌≤◌, ◌∙◌, ◌⊎◌, inl, inr, ⊎_elim, sym, ap, subst, refl, arith, Bool, true, false, ◌&&◌, ◌||◌, List, [], ◌∷◌, length, get_or, take, drop, Some, Result, Ok, Err, IfOk, length-drop}
+use Rattle.std.specs.Prelude.{◌==◌, Contains, slice_get, slice_index}
 use Rattle.std.proofs.lemmas.Option.{slice_get_read}
 use Rattle.std.proofs.Math.Nat.{pow-suc}
 use Rattle.std.proofs.lemmas.Bool.{false≢true}
@@ -17,7 +17,7 @@ use Rattle.cond_terms.specs.Simple.{IsSimple, IsJoined}
 use Rattle.cond_terms.proofs.Layers.{truth_false, truth_and, literals_and}
 use Rattle.cond_terms.proofs.Nested.{nesting_false}
 use Rattle.cond_terms.proofs.Shallow.{simple_is_shallow}
-use Rattle.cond_terms.specs.Guards.{term_of, read_of}
+use Rattle.cond_terms.specs.Guards.{read_of}
 use Rattle.cond_terms.specs.Reaching.{HaveSources, ComesAlong, IsWay, IsAnyWay, IsShortened}
 use Rattle.cond_terms.proofs.Excluding.{both_true}
 use Rattle.cond_terms.proofs.Placing.{same_at, at_listed}

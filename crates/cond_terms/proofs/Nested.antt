@@ -1,12 +1,12 @@
 -- How deep terms are: variant by variant, and simple ones by their literals.
-use Rattle.std.proofs.Common.{◌≡◌, ◌⊎◌, inl, inr, ℕ, ◌+◌, ◌≤◌, max, refl, sym, ap, ◌∙◌, arith}
+use Rattle.std.proofs.Common.{◌≡◌, inl, inr, ℕ, ◌+◌, ◌≤◌, max, sym, ap, ◌∙◌, arith}
 use Rattle.cond_terms.specs.declared.term.Lit.{Lit}
 use Rattle.cond_terms.specs.declared.term.Term as layer
 use Rattle.cond_terms.specs.declared.term.Term.{Term, Term-F, roll-Term}
 use Rattle.cond_terms.specs.declared.term.Term.TheVariants as term
 use Rattle.cond_terms.specs.Terms.{literals}
 use Rattle.cond_terms.specs.Nesting.{nesting, nesting_at, IsPlain}
-use Rattle.cond_terms.proofs.Layers.{literals_true, literals_lit, literals_not, literals_and, literals_or}
+use Rattle.cond_terms.proofs.Layers.{literals_true, literals_lit, literals_not}
 
 nesting_layer : (y : Term-F Term) → nesting (roll-Term y) ≡ nesting_at (layer.map-Term Term ℕ nesting y)
 nesting_layer y = layer.fold-roll-Term ℕ nesting_at y

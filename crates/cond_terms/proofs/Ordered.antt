@@ -1,20 +1,19 @@
 -- The guards of the nodes of an order, one after another.
-use Rattle.std.proofs.Common.{◌≡◌, ◌≢◌, ℕ, zero, suc, ◌+◌, ◌^◌, ◌<◌, ◌≤◌, ◌∙◌, ◌⊎◌, inl, inr, ⊎_elim, sym, ap, subst, refl, arith, Bool, true, false, List, [], ◌∷◌, ◌++◌, length, get_or, Some, nat_eq, All, map}
+use Rattle.std.proofs.Common.{◌≡◌, ◌≢◌, ℕ, zero, suc, ◌+◌, ◌^◌, ◌<◌, ◌≤◌, ◌∙◌, ◌⊎◌, inl, inr, ⊎_elim, sym, ap, subst, refl, arith, true, false, List, [], ◌∷◌, ◌++◌, length, get_or, Some, nat_eq, All, map}
 use Rattle.std.specs.Prelude.{Contains, slice_get, slice_index, slice_index_or, ◌↔◌}
 use Rattle.std.proofs.lemmas.Bool.Decides.{nat_tests}
 use Rattle.std.proofs.lemmas.Option.{same_Some, slice_get_within}
 use Rattle.std.proofs.lemmas.List.{length-map}
 use Rattle.std.proofs.lemmas.List.Elements.{All-contains, All-nil, All-cons, All-push, All-weaker}
-use Rattle.graph_order.specs.Graph.{Digraph, HasEdge, IsReached, step}
+use Rattle.graph_order.specs.Graph.{Digraph, HasEdge, step}
 use Rattle.graph_order.specs.Order.{IsTopologicalOrder}
-use Rattle.cond_terms.specs.declared.term.Term.{Term}
 use Rattle.cond_terms.specs.declared.term.Lit.TheVariants as lit
 use Rattle.cond_terms.specs.declared.guards.Edge.{Edge}
 use Rattle.cond_terms.specs.declared.guards.Guard.{Guard}
 use Rattle.cond_terms.specs.declared.guards.Guard.TheVariants as guard
 use Rattle.cond_terms.specs.Terms.{Valuation, term_truth, literals}
 use Rattle.cond_terms.specs.Nesting.{nesting}
-use Rattle.cond_terms.specs.Guards.{term_of, read_of, names_of, IsTaken, AreEdgesOf, IsGuardAt, NamesTell, NamesSet, TellTaken, Comes, AreGuards, IsNamedAs, AreNamed, ArePlain, AreShallow}
+use Rattle.cond_terms.specs.Guards.{term_of, read_of, names_of, AreEdgesOf, IsGuardAt, NamesTell, NamesSet, TellTaken, Comes, AreGuards, IsNamedAs, AreNamed, ArePlain, AreShallow}
 use Rattle.cond_terms.specs.Reaching.{ArePlaces, LeadsTo, AreWaysIn, HaveSources, ComesAlong, IsGuardMade}
 use Rattle.cond_terms.proofs.Placing.{same_at, listed_at, at_listed, at_image}
 use Rattle.cond_terms.proofs.Layers.{literals_lit}

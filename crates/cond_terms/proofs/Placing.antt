@@ -1,5 +1,5 @@
 -- The places of nodes in an order, and of the edges into each node.
-use Rattle.std.proofs.Common.{◌≡◌, ℕ, zero, suc, ◌+◌, ◌<◌, ◌≤◌, ◌∙◌, ◌⊎◌, inl, inr, ⊎_elim, sym, ap, subst, refl, arith, List, [], ◌∷◌, ◌++◌, length, get_or, set, map, Some, length-set, length-append, get_or-set_same, get_or-set_other}
+use Rattle.std.proofs.Common.{◌≡◌, ℕ, zero, suc, ◌+◌, ◌<◌, ◌≤◌, ◌∙◌, ⊎_elim, sym, ap, subst, refl, arith, List, [], ◌∷◌, ◌++◌, length, get_or, set, map, Some, length-set, length-append, get_or-set_same, get_or-set_other}
 use Rattle.std.specs.Prelude.{All, Contains, slice_get, slice_index, slice_index_or, ◌↔◌}
 use Rattle.std.proofs.lemmas.Bool.{cases_eq}
 use Rattle.std.proofs.lemmas.Option.{same_Some, slice_get_read, slice_get_within, get_or_from_slice_get}

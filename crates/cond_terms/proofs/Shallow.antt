@@ -1,5 +1,5 @@
 -- Simple terms are no deeper than they have literals.
-use Rattle.std.proofs.Common.{inl, inr, ◌≤◌, max, ap, arith}
+use Rattle.std.proofs.Common.{inl, inr, ◌≤◌, ap, arith}
 use Rattle.cond_terms.specs.declared.term.Term.{Term}
 use Rattle.cond_terms.specs.declared.term.Term.TheVariants as term
 use Rattle.cond_terms.specs.Terms.{literals}

@@ -3,11 +3,10 @@ use Rattle.std.specs.Prelude.{◌≡◌, ◌↔◌, ℕ, ◌+◌, ◌^◌, ◌<�
 use Rattle.cond_terms.specs.declared.term.Term.{Term}
 use Rattle.cond_terms.specs.declared.guards.Edge.{Edge}
 use Rattle.cond_terms.specs.declared.guards.Guard.{Guard}
-use Rattle.cond_terms.specs.declared.guards.Guard.TheVariants as guard
 use Rattle.cond_terms.specs.Terms.{Valuation, term_truth, literals}
 use Rattle.cond_terms.specs.Nesting.{nesting}
 use Rattle.cond_terms.specs.Simple.{IsSimple}
-use Rattle.cond_terms.specs.Guards.{term_of, read_of, names_of, IsNamedAs}
+use Rattle.cond_terms.specs.Guards.{term_of, read_of, IsNamedAs}
 
 -- for each node that stands in an order, a place where it stands
 pub record ArePlaces (count : ℕ) (order places : List ℕ) : Type 0 where

@@ -1,4 +1,4 @@
-use Rattle.std.proofs.Common.{All, take, ◌<◌, ℕ, get_or}
+use Rattle.std.proofs.Common.{◌<◌, ℕ, get_or}
 use Rattle.cond_terms.proofs.places.above.Given as goal
 
 abbrev pub invariant-loop-node : goal.invariant-loop-node
