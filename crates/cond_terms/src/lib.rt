@@ -1,6 +1,6 @@
 //! Terms: conditions over variables that stand for words, as they guard the parts of a tree.
-//! It is given nothing. It promises copies, whether two terms are the same or exclude each other, how many literals a term has,
-//! and terms of the same truth that are simple, or have common conjuncts taken out.
+//! It is given the graphs of `graph_order`. It promises copies, whether two terms are the same or exclude each other, how many
+//! literals a term has, terms of the same truth that are simple, or have common conjuncts taken out, and the guards of a graph's nodes.
 #![tactic(auto)]
 
 mod exclusion;
