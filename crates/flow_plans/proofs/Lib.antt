@@ -1,0 +1,6 @@
+pub mod Adding
+pub mod Holding
+pub mod Emitting
+pub mod Induct
+pub mod Tracking
+pub mod Following

@@ -1,0 +1,4 @@
+pub mod Known
+pub mod Checked
+pub mod Emitted
+pub mod Laws
