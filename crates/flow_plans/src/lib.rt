@@ -3,6 +3,7 @@
 //! It promises that a plan which its check lets through gives a tree that follows the flow.
 #![tactic(auto)]
 
+mod known;
 mod laws;
 mod plan;
 
