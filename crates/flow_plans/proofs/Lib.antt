@@ -4,3 +4,7 @@ pub mod Emitting
 pub mod Induct
 pub mod Tracking
 pub mod Following
+pub mod Turning
+pub mod Blocks
+pub mod Forming
+mod Examples

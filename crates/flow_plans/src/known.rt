@@ -111,17 +111,6 @@ pub(crate) fn knows(first: &[Value], second: &[Value]) -> bool
     true
 }
 
-/// The same values.
-pub(crate) fn copied(alloc: Global, known: &[Value]) -> Result<Items<Value>, AllocError>
-    ensures { IfOk result (λ all. all ≡ known.now) }
-{
-    let mut all = Items::new(alloc);
-    for a in known {
-        all.push(*a)?;
-    }
-    Ok(all)
-}
-
 /// What both know.
 pub(crate) fn common(
     alloc: Global,

@@ -3,9 +3,19 @@
 //! It promises that a plan which its check lets through gives a tree that follows the flow.
 #![tactic(auto)]
 
+mod check;
+mod copy;
+mod emit;
+mod entries;
+mod fit;
 mod known;
 mod laws;
 mod plan;
+mod test_trees;
+mod tree;
 
-pub use laws::plans_follow;
+pub use check::checked;
+pub use emit::emitted;
+pub use laws::{plans_follow, plans_form, plans_turn};
 pub use plan::{Entry, Plan, Value, Way};
+pub use tree::structured;
