@@ -7,4 +7,4 @@ pub mod Following
 pub mod Turning
 pub mod Blocks
 pub mod Forming
-mod Examples
+pub mod Whole

@@ -83,19 +83,19 @@ fn add_block(
 fn add_plan(
     alloc: Global,
     blocks: &[Block],
-    trees: &mut Items<Tree>,
     plan: &Plan,
+    trees: &mut Items<Tree>,
 ) -> Result<(), AllocError>
     ensures { OnOk result (trees.new ≡ trees.old ++ trees_of blocks.now plan.now) }
 {
     match plan {
         Plan::Block(n, way) => add_block(alloc, trees, *way, at(blocks, n.0 as usize)),
-        Plan::Seq(plans) => add_all(alloc, blocks, trees, plans.as_slice()),
+        Plan::Seq(plans) => add_all(alloc, blocks, plans.as_slice(), trees),
         Plan::Test(values, p, q) => {
             let mut first = Items::new(alloc);
-            add_plan(alloc, blocks, &mut first, p.get())?;
+            add_plan(alloc, blocks, p.get(), &mut first)?;
             let mut second = Items::new(alloc);
-            add_plan(alloc, blocks, &mut second, q.get())?;
+            add_plan(alloc, blocks, q.get(), &mut second)?;
             trees.push(test_tree(alloc, values.as_slice(), first, second)?)?;
             Ok(())
         }
@@ -115,7 +115,7 @@ fn add_plan(
         }
         Plan::Loop(_, _, p) => {
             let mut turn = Items::new(alloc);
-            add_plan(alloc, blocks, &mut turn, p.get())?;
+            add_plan(alloc, blocks, p.get(), &mut turn)?;
             trees.push(Tree::Loop(Boxed::new(alloc, gathered(turn))?))?;
             Ok(())
         }
@@ -127,13 +127,13 @@ fn add_plan(
 fn add_all(
     alloc: Global,
     blocks: &[Block],
-    trees: &mut Items<Tree>,
     plans: &[Plan],
+    trees: &mut Items<Tree>,
 ) -> Result<(), AllocError>
     ensures { OnOk result (trees.new ≡ trees.old ++ joined (map (trees_of blocks.now) plans.now)) }
 {
     for p in plans {
-        add_plan(alloc, blocks, trees, p)?;
+        add_plan(alloc, blocks, p, trees)?;
     }
     Ok(())
 }
@@ -143,6 +143,6 @@ pub fn emitted(alloc: Global, blocks: &[Block], plan: &Plan) -> Result<Tree, All
     ensures { IfOk result (λ t. t ≡ emitted blocks.now plan.now) }
 {
     let mut trees = Items::new(alloc);
-    add_plan(alloc, blocks, &mut trees, plan)?;
+    add_plan(alloc, blocks, plan, &mut trees)?;
     Ok(gathered(trees))
 }

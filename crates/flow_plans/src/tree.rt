@@ -8,7 +8,6 @@ ghost use Rattle.flow_plans.specs.Laws.{zeros, at_start, passes, IsTreeOf};
 use crate::check::checked;
 use crate::emit::emitted;
 use crate::fit::{fits, nests_within};
-use crate::laws::{plans_follow, plans_form, plans_turn};
 use crate::plan::{Entry, Plan, Value};
 use dream_words::Name;
 use guarded::Tree;
@@ -75,9 +74,6 @@ pub fn structured(
     requires { KeepsRule f.now }
     ensures { IfOk result (λ o. IfSome o (λ t. IsTreeOf f.now (head_in heads.now) t)) }
 {
-    plans_follow();
-    plans_turn();
-    plans_form();
     if !fits(plan, false) || !nests_within(plan, DEEPEST) {
         return Ok(None);
     }
