@@ -1,0 +1,5 @@
+pub mod Known
+pub mod Checked
+pub mod Emitted
+pub mod Fitting
+pub mod Laws
