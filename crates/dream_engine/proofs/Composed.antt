@@ -22,8 +22,8 @@ use Rattle.regions.proofs.Agreed.{following}
 use Rattle.regions.specs.Laws.{IsPlainOf, IsStraightOf}
 use Rattle.dream_engine.specs.declared.form.Form.{Form}
 use Rattle.dream_engine.specs.declared.form.Form.TheVariants.{Structured, Plain}
-use Rattle.dream_engine.specs.Agreement.{Agrees, HasForm, IsSelectorLoop, IsStraightLine, IsFunctionOf}
-use Rattle.dream_engine.specs.Tree.{IsTreeIn}
+use Rattle.dream_engine.specs.Agreement.{Agrees, HasTurnsAtHeads, HasForm, IsSelectorLoop, IsStraightLine, IsFunctionOf}
+use Rattle.dream_engine.specs.Tree.{IsPlannedOf, IsTreeIn}
 
 -- what the tree's function agrees with
 agrees_by : (m : List Segment) (r : Range) (places : List ℕ) (flow : Flow) (t : Tree) (f : CFun) → AreCovering m r places → IsFlowOf m r places flow → Follows flow t → IsTreeOf t f
@@ -40,20 +40,34 @@ plain_form flow t f p of = (of.loops ∙ p.loops, of.selectors p.formed ∙ p.se
 straight_form : (flow : Flow) (t : Tree) (f : CFun) → IsStraightOf flow t → IsTreeOf t f → IsStraightLine f
 straight_form flow t f p of = (of.loops ∙ p.loops, of.tests ∙ p.tests, of.selectors p.formed ∙ p.selectors)
 
-has_form : (form : Form) (flow : Flow) (t : Tree) (f : CFun) → IsTreeIn form flow t → IsTreeOf t f → HasForm form f
-has_form Plain flow t f p of = plain_form flow t f p of
-has_form Structured flow t f (inl p) of = inl (straight_form flow t f p of)
-has_form Structured flow t f (inr p) of = inr (plain_form flow t f p of)
+-- the turns of a planned tree are those of its function
+planned_form : (m : List Segment) (r : Range) (places : List ℕ) (flow : Flow) (t : Tree) (f : CFun) → AreCovering m r places → IsFlowOf m r places flow → IsPlannedOf flow t → IsTreeOf t f
+    → HasTurnsAtHeads m r f
+planned_form m r places flow t f covering is p of = record {
+  flow = flow;
+  head = p.0;
+  agrees = λ decoded d start s answers a. flows_agree m r decoded places flow start answers d covering is s a;
+  turns = λ start answers never k ended. of.runs start answers _ ∙ p.1.turns start answers never k ended;
+}
+
+has_form : (form : Form) (m : List Segment) (r : Range) (places : List ℕ) (flow : Flow) (t : Tree) (f : CFun) → AreCovering m r places → IsFlowOf m r places flow → IsTreeIn form flow t
+    → IsTreeOf t f → HasForm form m r f
+has_form Plain m r places flow t f covering is p of = plain_form flow t f p of
+has_form Structured m r places flow t f covering is (inl p) of = inl (straight_form flow t f p of)
+has_form Structured m r places flow t f covering is (inr (inl p)) of = inr (inl (planned_form m r places flow t f covering is p of))
+has_form Structured m r places flow t f covering is (inr (inr p)) of = inr (inr (plain_form flow t f p of))
 
 tree_formed : (form : Form) (flow : Flow) (t : Tree) → IsTreeIn form flow t → TreeIsWellFormed t
 tree_formed Plain flow t p = p.formed
 tree_formed Structured flow t (inl p) = p.formed
-tree_formed Structured flow t (inr p) = p.formed
+tree_formed Structured flow t (inr (inl p)) = p.1.formed
+tree_formed Structured flow t (inr (inr p)) = p.formed
 
 tree_follows : (form : Form) (flow : Flow) (t : Tree) → IsTreeIn form flow t → Follows flow t
 tree_follows Plain flow t p = p.follows
 tree_follows Structured flow t (inl p) = p.follows
-tree_follows Structured flow t (inr p) = p.follows
+tree_follows Structured flow t (inr (inl p)) = p.1.follows
+tree_follows Structured flow t (inr (inr p)) = p.follows
 
 -- all of it
 pub composed : (form : Form) (m : List Segment) (r : Range) (places : List ℕ) (flow : Flow) (t : Tree) (f : CFun) → HasNoPlace m r → AreCovering m r places
@@ -61,7 +75,7 @@ pub composed : (form : Form) (m : List Segment) (r : Range) (places : List ℕ) 
 composed form m r places flow t f none covering is p of e = record {
   no_place = none;
   formed = of.formed (tree_formed form flow t p);
-  in_form = has_form form flow t f p of;
+  in_form = has_form form m r places flow t f covering is p of;
   agrees = agrees_by m r places flow t f covering is (tree_follows form flow t p) of e;
 }
 

@@ -1,11 +1,12 @@
 //! From a range to its function, and to the text of that.
 
-ghost use Rattle.std.specs.Prelude.{◌≡◌, IfOk, IfErr};
+ghost use Rattle.std.specs.Prelude.{◌≡◌, ◌⊎◌, IfOk, IfErr, IfSome};
 ghost use Rattle.dream_engine.specs.Agreement.{IsDecompiled, IsFunctionOf};
-ghost use Rattle.dream_engine.specs.Tree.{IsTreeIn};
+ghost use Rattle.dream_engine.specs.Tree.{IsPlannedOf, IsTreeIn};
 ghost use Rattle.flow_graph.specs.Discovery.{IsDiscovered};
 ghost use Rattle.flow_graph.specs.Place.{HasNoPlace, HasNoText};
 ghost use Rattle.micro_ir.specs.Rule.{IsGiven};
+ghost use Rattle.regions.specs.Laws.{IsPlainOf};
 
 use crate::form::Form;
 use c_emit::emit;
@@ -13,6 +14,8 @@ use c_print::print;
 use c_syntax::{CFun, canonical_stands};
 use elf_image::{Image, Range};
 use flow_graph::{FlowFault, Found, discover};
+use flow_layout::layout_of;
+use flow_plans::structured;
 use guarded::Tree;
 use micro_ir::Flow;
 use range_flow::flow_of;
@@ -28,8 +31,33 @@ fn tree_of(alloc: Global, f: &Flow, form: Form) -> Result<Tree, AllocError>
         Form::Plain => plain(alloc, f),
         Form::Structured => match straight(alloc, f)? {
             Some(t) => Ok(t),
-            None => plain(alloc, f),
+            None => planned_or_plain(alloc, f),
         },
+    }
+}
+
+// The tree of a plan for a flow; the plain one where no plan is found that the check lets through.
+fn planned_or_plain(alloc: Global, f: &Flow) -> Result<Tree, AllocError>
+    requires given { IsGiven f.now }
+    ensures { IfOk result (λ t. IsPlannedOf f.now t ⊎ IsPlainOf f.now t) }
+{
+    match planned(alloc, f)? {
+        Some(t) => Ok(t),
+        None => plain(alloc, f),
+    }
+}
+
+// The tree of a plan for a flow.
+fn planned(alloc: Global, f: &Flow) -> Result<Option<Tree>, AllocError>
+    requires given { IsGiven f.now }
+    ensures { IfOk result (λ o. IfSome o (IsPlannedOf f.now)) }
+{
+    match layout_of(alloc, f)? {
+        None => Ok(None),
+        Some(l) => {
+            let tree = structured(alloc, f, &l.heads, &l.zeros, &l.plan)?;
+            Ok(tree)
+        }
     }
 }
 
