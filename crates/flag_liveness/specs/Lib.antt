@@ -1,0 +1,3 @@
+pub mod Before
+pub mod Rows
+pub mod Clean

@@ -1,0 +1,8 @@
+//! Which names of a flow are live at the beginning of each of its blocks, and the flow without what nobody sees.
+//! Given are flows.
+//! Promised are sets of live names that are closed, and a flow that keeps the runs of the old one.
+#![tactic(auto)]
+
+mod row;
+
+pub use row::Row;
