@@ -1,3 +1,4 @@
 pub mod Before
 pub mod Rows
+pub mod Within
 pub mod Clean

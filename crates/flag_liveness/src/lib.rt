@@ -3,6 +3,8 @@
 //! Promised are sets of live names that are closed, and a flow that keeps the runs of the old one.
 #![tactic(auto)]
 
+mod names;
 mod row;
+mod seen;
 
 pub use row::Row;

@@ -1,0 +1,28 @@
+-- What is live at a place within a block.
+use Rattle.std.specs.Prelude.{◌≡◌, ℕ, Bool, true, false, ◌&&◌, unwrap_or, IsTrue}
+use Rattle.std.specs.Ordering.{nat_cmp}
+use Rattle.std.specs.BTreeMap as tree
+use Rattle.dream_words.specs.declared.machine.Name.{Name}
+use Rattle.dream_words.specs.declared.machine.Name.TheVariants.{Reg, Flag, Fs, Gs, T, B, S}
+use Rattle.micro_ir.specs.Rule.{is_flow_target}
+use Rattle.flow_passes.specs.Uses.{NameSet}
+use Rattle.flag_liveness.specs.declared.seen.Seen.{Seen}
+use Rattle.flag_liveness.specs.Rows.{row_names}
+
+-- Two sets have the same of the names that a flow may set.
+abbrev pub Agree : NameSet → NameSet → Type 0
+Agree a b = (n : Name) → IsTrue (is_flow_target n) → a n ≡ b n
+
+-- a set of names, but for temporaries, which are given
+abbrev pub row_or_temps : NameSet → (ℕ → Bool) → NameSet
+row_or_temps row temps (T n) = temps n
+row_or_temps row temps n = row n
+
+-- The temporaries that are live at a place: those that are known to be, and of the others, where the block goes on,
+-- those that live across blocks.
+abbrev pub temps_within : (ℕ → Bool) → Seen → ℕ → Bool
+temps_within across s n = unwrap_or (tree.get nat_cmp s.temps n) (s.goes_on && across n)
+
+-- what is live at a place
+abbrev pub names_within : (ℕ → Bool) → Seen → NameSet
+names_within across s = row_or_temps (row_names s.row) (temps_within across s)
