@@ -1,5 +1,5 @@
 -- What is live at a place within a block.
-use Rattle.std.specs.Prelude.{◌≡◌, ℕ, Bool, true, false, ◌&&◌, unwrap_or, IsTrue}
+use Rattle.std.specs.Prelude.{◌≡◌, ℕ, Bool, true, false, ◌&&◌, ◌||◌, unwrap_or, IsTrue}
 use Rattle.std.specs.Ordering.{nat_cmp}
 use Rattle.std.specs.BTreeMap as tree
 use Rattle.dream_words.specs.declared.machine.Name.{Name}
@@ -26,3 +26,7 @@ temps_within across s n = unwrap_or (tree.get nat_cmp s.temps n) (s.goes_on && a
 -- what is live at a place
 abbrev pub names_within : (ℕ → Bool) → Seen → NameSet
 names_within across s = row_or_temps (row_names s.row) (temps_within across s)
+
+-- some names are made live
+pub record Adds (reads : NameSet) (old new : Seen) : Type 0 where
+  pub names : (across : ℕ → Bool) → Agree (names_within across new) (λ n. reads n || names_within across old n)

@@ -5,7 +5,7 @@ ghost use Rattle.std.specs.Ordering.{nat_cmp};
 ghost use Rattle.std.specs.BTreeSet as set;
 ghost use Rattle.flow_passes.specs.Uses.{same_name, word_reads, cond_reads, is_register};
 ghost use Rattle.flag_liveness.specs.Rows.{row_names, SameRow};
-ghost use Rattle.flag_liveness.specs.Within.{names_within, temps_within, row_or_temps, Agree};
+ghost use Rattle.flag_liveness.specs.Within.{names_within, temps_within, row_or_temps, Agree, Adds};
 
 use crate::row::Row;
 use dream_words::Name;
@@ -72,33 +72,54 @@ impl Seen {
         }
     }
 
+    /// Makes a name live.
+    fn add_name(&mut self, n: Name) -> Result<(), AllocError>
+        ensures { OnOk result (Adds (same_name n) self.old self.new) }
+    {
+        self.set(n, true)?;
+        Ok(())
+    }
+
     /// Makes the names live that a Word reads.
     #[cycle(add)]
     pub fn add_word(&mut self, e: &Expr) -> Result<(), AllocError>
-        ensures { OnOk result ((across : ℕ → Bool) → Agree (names_within across self.new) (λ n. word_reads e.now n || names_within across self.old n)) }
+        ensures { OnOk result (Adds (word_reads e.now) self.old self.new) }
     {
         match e {
             Expr::Num(_) => Ok(()),
-            Expr::Name(n) => self.set(*n, true),
-            Expr::Not(a) => self.add_word(a.get()),
+            Expr::Name(n) => {
+                self.add_name(*n)?;
+                Ok(())
+            }
+            Expr::Not(a) => {
+                self.add_word(a.get())?;
+                Ok(())
+            }
             Expr::Bin(_, a, b) => {
                 self.add_word(a.get())?;
-                self.add_word(b.get())
+                self.add_word(b.get())?;
+                Ok(())
             }
-            Expr::Fn1(_, a) => self.add_word(a.get()),
+            Expr::Fn1(_, a) => {
+                self.add_word(a.get())?;
+                Ok(())
+            }
             Expr::Fn2(_, a, b) => {
                 self.add_word(a.get())?;
-                self.add_word(b.get())
+                self.add_word(b.get())?;
+                Ok(())
             }
             Expr::Fn3(_, a, b, c) => {
                 self.add_word(a.get())?;
                 self.add_word(b.get())?;
-                self.add_word(c.get())
+                self.add_word(c.get())?;
+                Ok(())
             }
             Expr::Pick(t, a, b) => {
                 self.add_cond(t.get())?;
                 self.add_word(a.get())?;
-                self.add_word(b.get())
+                self.add_word(b.get())?;
+                Ok(())
             }
         }
     }
@@ -106,21 +127,27 @@ impl Seen {
     /// Makes the names live that a Cond reads.
     #[cycle(add)]
     pub fn add_cond(&mut self, t: &Cond) -> Result<(), AllocError>
-        ensures { OnOk result ((across : ℕ → Bool) → Agree (names_within across self.new) (λ n. cond_reads t.now n || names_within across self.old n)) }
+        ensures { OnOk result (Adds (cond_reads t.now) self.old self.new) }
     {
         match t {
             Cond::Cmp(_, a, b) => {
                 self.add_word(a)?;
-                self.add_word(b)
+                self.add_word(b)?;
+                Ok(())
             }
-            Cond::Not(t) => self.add_cond(t.get()),
+            Cond::Not(t) => {
+                self.add_cond(t.get())?;
+                Ok(())
+            }
             Cond::And(t, u) => {
                 self.add_cond(t.get())?;
-                self.add_cond(u.get())
+                self.add_cond(u.get())?;
+                Ok(())
             }
             Cond::Or(t, u) => {
                 self.add_cond(t.get())?;
-                self.add_cond(u.get())
+                self.add_cond(u.get())?;
+                Ok(())
             }
         }
     }
