@@ -1,1 +1,4 @@
 pub mod Adding
+pub mod Back
+pub mod Cases
+pub mod Ends

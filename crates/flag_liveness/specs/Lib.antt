@@ -1,4 +1,5 @@
 pub mod Before
 pub mod Rows
 pub mod Within
+pub mod Lives
 pub mod Clean

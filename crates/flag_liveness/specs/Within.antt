@@ -1,11 +1,12 @@
 -- What is live at a place within a block.
-use Rattle.std.specs.Prelude.{◌≡◌, ℕ, Bool, true, false, ◌&&◌, ◌||◌, unwrap_or, IsTrue}
+use Rattle.std.specs.Prelude.{◌≡◌, ℕ, Bool, true, false, not, ◌&&◌, ◌||◌, unwrap_or, IsTrue}
 use Rattle.std.specs.Ordering.{nat_cmp}
 use Rattle.std.specs.BTreeMap as tree
 use Rattle.dream_words.specs.declared.machine.Name.{Name}
 use Rattle.dream_words.specs.declared.machine.Name.TheVariants.{Reg, Flag, Fs, Gs, T, B, S}
 use Rattle.micro_ir.specs.Rule.{is_flow_target}
-use Rattle.flow_passes.specs.Uses.{NameSet}
+use Rattle.micro_ir.specs.declared.flow.Stmt.{Stmt}
+use Rattle.flow_passes.specs.Uses.{NameSet, stmt_reads, stmt_sets}
 use Rattle.flag_liveness.specs.declared.seen.Seen.{Seen}
 use Rattle.flag_liveness.specs.Rows.{row_names}
 
@@ -30,3 +31,7 @@ names_within across s = row_or_temps (row_names s.row) (temps_within across s)
 -- some names are made live
 pub record Adds (reads : NameSet) (old new : Seen) : Type 0 where
   pub names : (across : ℕ → Bool) → Agree (names_within across new) (λ n. reads n || names_within across old n)
+
+-- a statement that somebody sees is gone back over
+pub record GoesBack (s : Stmt) (old new : Seen) : Type 0 where
+  pub names : (across : ℕ → Bool) → Agree (names_within across new) (λ n. stmt_reads s n || (names_within across old n && not (stmt_sets s n)))

@@ -3,8 +3,14 @@
 //! Promised are sets of live names that are closed, and a flow that keeps the runs of the old one.
 #![tactic(auto)]
 
+mod before;
+mod clean;
+mod live;
 mod names;
 mod row;
 mod seen;
 
+pub use clean::clean_by;
+pub use live::Live;
 pub use row::Row;
+pub use seen::Seen;

@@ -1,7 +1,7 @@
 //! Names that are the same, and the names that Words read.
 
 ghost use Rattle.std.specs.Prelude.{◌≡◌, ℕ, Bool, true, false, ◌||◌, OnOk, IsTrue};
-ghost use Rattle.flow_passes.specs.Uses.{same_name, word_reads, cond_reads};
+ghost use Rattle.flow_passes.specs.Uses.{same_name, is_register, word_reads, cond_reads};
 ghost use Rattle.flag_liveness.specs.Before.{is_itself};
 
 use dream_words::Name;
@@ -65,6 +65,13 @@ fn same_selector(a: u32, n: Name) -> bool
         Name::S(b) => a == b,
         _ => false,
     }
+}
+
+/// Whether a name is a register.
+pub(crate) fn is_register(n: Name) -> bool
+    ensures { result ≡ is_register n }
+{
+    matches!(n, Name::Reg(_))
 }
 
 /// Whether a Word is just a name.

@@ -1,6 +1,7 @@
 //! The registers and the flags that are live somewhere.
 
 ghost use Rattle.std.specs.Prelude.{◌≡◌, ◌+◌, ℕ, Bool, true, false, not, ◌||◌, ◌<◌, length, count_by, slice_index_or, IsTrue, nat_eq, if◌then◌else◌};
+ghost use Rattle.dream_words.specs.declared.machine.Name.{Name as AnyName};
 ghost use Rattle.flow_passes.specs.Uses.{same_name, is_register};
 ghost use Rattle.flag_liveness.specs.Rows.{row_names, unset, SameRow};
 
@@ -42,7 +43,7 @@ impl Row {
 
     /// All registers and flags are live.
     pub fn all() -> Row
-        ensures { SameRow (row_names result) (λ n. true) }
+        ensures { (n : AnyName) → row_names result n ≡ true }
     {
         Row {
             regs: [true; REGISTERS],
