@@ -2,3 +2,8 @@ pub mod Adding
 pub mod Back
 pub mod Cases
 pub mod Ends
+pub mod Setting
+pub mod Alike
+pub mod Kept
+pub mod Keeping
+pub mod Making

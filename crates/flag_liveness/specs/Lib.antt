@@ -3,3 +3,4 @@ pub mod Rows
 pub mod Within
 pub mod Lives
 pub mod Clean
+pub mod Laws

@@ -5,12 +5,14 @@
 
 mod before;
 mod clean;
+mod laws;
 mod live;
 mod names;
 mod row;
 mod seen;
 
 pub use clean::clean_by;
+pub use laws::cleaning_keeps;
 pub use live::Live;
 pub use row::Row;
 pub use seen::Seen;

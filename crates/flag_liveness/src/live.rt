@@ -9,10 +9,11 @@ ghost use Rattle.flag_liveness.specs.Rows.{row_names, SameRow};
 ghost use Rattle.flag_liveness.specs.Within.{names_within, Agree};
 ghost use Rattle.flag_liveness.specs.Lives.{live_of, row_in, across_of};
 
-use crate::names::{cond_reads, is_register, word_reads};
+
 use crate::row::Row;
 use crate::seen::Seen;
 use dream_words::Name;
+use flow_passes::{cond_reads, is_register, word_reads};
 use graph_order::NodeId;
 use micro_ir::{Case, End};
 use std::alloc::{AllocError, Global};
