@@ -112,3 +112,41 @@ module _ (across : ℕ → Bool) (row : ℕ → NameSet) where
   at_leave w e r x s i h m p =
       subst (λ (k : BlockEnd). Agree (names_within across s) (live_at k (λ k. row_or_temps (row k) across))) (sym i)
       (λ n t. adds_agree (word_reads w) is_register across x s p (made_of r false across x is_register m h (λ k. refl)) n t ∙ or_turned (is_register n) (word_reads w n))
+
+-- ---- what an end reads
+
+-- the registers and flags of a row
+pub last_made : (e : BlockEnd) (r : Row) (s : Seen) (rows : NameSet) → SameRow (row_names r) rows → ((k : ℕ) → rows (n.T k) ≡ false) → ((across : ℕ → Bool) → IsMade r false across s) → ((k : Name) → end_reads e k ≡ rows k)
+    → (across : ℕ → Bool) → Agree (names_within across s) (end_reads e)
+last_made e r s rows h g m q across = λ k t. made_of r false across s rows (m across) h g k t ∙ sym (q k)
+
+-- and of a Word or a Cond
+pub last_adds : (e : BlockEnd) (r : Row) (x s : Seen) (part rows : NameSet) → SameRow (row_names r) rows → ((k : ℕ) → rows (n.T k) ≡ false) → ((across : ℕ → Bool) → IsMade r false across x) → Adds part x s → ((k : Name) → end_reads e k ≡ (part k || rows k))
+    → (across : ℕ → Bool) → Agree (names_within across s) (end_reads e)
+last_adds e r x s part rows h g m p q across = λ k t. adds_agree part rows across x s p (made_of r false across x rows (m across) h g) k t ∙ sym (q k)
+
+end_reads_of : (e d : BlockEnd) (k : Name) → e ≡ d → end_reads e k ≡ end_reads d k
+end_reads_of e d k i = ap (λ x. end_reads x k) i
+
+pub last_go : (a : ℕ) (e : BlockEnd) (r : Row) (s : Seen) → e ≡ end.Go a → SameRow (row_names r) (λ n. false) → ((across : ℕ → Bool) → IsMade r false across s) → (across : ℕ → Bool) → Agree (names_within across s) (end_reads e)
+last_go a e r s i h m = last_made e r s (λ n. false) h (λ k. refl) m (λ k. end_reads_of e (end.Go a) k i)
+
+pub last_branch : (t : CCond) (a b : ℕ) (e : BlockEnd) (r : Row) (x s : Seen) → e ≡ end.Branch t a b → SameRow (row_names r) (λ n. false) → ((across : ℕ → Bool) → IsMade r false across x) → Adds (cond_reads t) x s
+    → (across : ℕ → Bool) → Agree (names_within across s) (end_reads e)
+last_branch t a b e r x s i h m p = last_adds e r x s (cond_reads t) (λ n. false) h (λ k. refl) m p (λ k. end_reads_of e (end.Branch t a b) k i ∙ sym (or_false (cond_reads t k)))
+
+pub last_switch : (w : CExpr) (cases : List Case) (e : BlockEnd) (r : Row) (x s : Seen) → e ≡ end.Switch w cases → SameRow (row_names r) (λ n. false) → ((across : ℕ → Bool) → IsMade r false across x) → Adds (word_reads w) x s
+    → (across : ℕ → Bool) → Agree (names_within across s) (end_reads e)
+last_switch w cases e r x s i h m p = last_adds e r x s (word_reads w) (λ n. false) h (λ k. refl) m p (λ k. end_reads_of e (end.Switch w cases) k i ∙ sym (or_false (word_reads w k)))
+
+pub last_return : (e : BlockEnd) (r : Row) (s : Seen) → e ≡ end.Return → SameRow (row_names r) is_register → ((across : ℕ → Bool) → IsMade r false across s) → (across : ℕ → Bool) → Agree (names_within across s) (end_reads e)
+last_return e r s i h m = last_made e r s is_register h (λ k. refl) m (λ k. end_reads_of e end.Return k i)
+
+or_swapped : (a b : Bool) → (a || b) ≡ (b || a)
+or_swapped true true = refl
+or_swapped true false = refl
+or_swapped false true = refl
+or_swapped false false = refl
+
+pub last_leave : (w : CExpr) (e : BlockEnd) (r : Row) (x s : Seen) → e ≡ end.Leave w → SameRow (row_names r) is_register → ((across : ℕ → Bool) → IsMade r false across x) → Adds (word_reads w) x s → (across : ℕ → Bool) → Agree (names_within across s) (end_reads e)
+last_leave w e r x s i h m p = last_adds e r x s (word_reads w) is_register h (λ k. refl) m p (λ k. end_reads_of e (end.Leave w) k i ∙ or_swapped (is_register k) (word_reads w k))

@@ -7,3 +7,7 @@ pub mod Alike
 pub mod Kept
 pub mod Keeping
 pub mod Making
+pub mod Going
+pub mod Closing
+pub mod Growing
+pub mod Crossing

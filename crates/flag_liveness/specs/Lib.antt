@@ -4,3 +4,5 @@ pub mod Within
 pub mod Lives
 pub mod Clean
 pub mod Laws
+pub mod Settled
+pub mod Across

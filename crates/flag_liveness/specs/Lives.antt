@@ -1,7 +1,8 @@
 -- What is live at the beginnings of blocks.
-use Rattle.std.specs.Prelude.{ℕ, Bool, true, Option, Some, None, slice_get}
+use Rattle.std.specs.Prelude.{ℕ, Bool, true, not, ◌||◌, Option, Some, None, slice_get}
 use Rattle.std.specs.Ordering.{nat_cmp}
 use Rattle.std.specs.BTreeSet as set
+use Rattle.micro_ir.specs.Rule.{is_flow_target}
 use Rattle.flow_passes.specs.Uses.{NameSet}
 use Rattle.flag_liveness.specs.declared.row.Row.{Row}
 use Rattle.flag_liveness.specs.declared.live.Live.{Live}
@@ -17,7 +18,10 @@ row_in None = λ n. true
 abbrev pub across_of : Live → ℕ → Bool
 across_of l = set.contains nat_cmp l.temps
 
--- What is live at the beginning of the block of a number: the registers and flags of its row, the temporaries that live
--- across blocks, and each base.
+-- the registers and flags of the row of a block, and the temporaries that live across blocks
+abbrev pub held_in : Live → ℕ → NameSet
+held_in l k = row_or_temps (row_in (slice_get l.rows.items k)) (across_of l)
+
+-- What is live at the beginning of the block of a number. A name that no flow sets counts as live.
 abbrev pub live_of : Live → ℕ → NameSet
-live_of l k = row_or_temps (row_in (slice_get l.rows.items k)) (across_of l)
+live_of l k n = not (is_flow_target n) || held_in l k n

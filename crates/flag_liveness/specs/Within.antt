@@ -1,7 +1,7 @@
 -- What is live at a place within a block.
-use Rattle.std.specs.Prelude.{◌≡◌, ℕ, Bool, true, false, not, ◌&&◌, ◌||◌, unwrap_or, IsTrue}
+use Rattle.std.specs.Prelude.{◌≡◌, ℕ, Bool, true, false, not, ◌&&◌, ◌||◌, IsTrue}
 use Rattle.std.specs.Ordering.{nat_cmp}
-use Rattle.std.specs.BTreeMap as tree
+use Rattle.std.specs.BTreeSet as set
 use Rattle.dream_words.specs.declared.machine.Name.{Name}
 use Rattle.dream_words.specs.declared.machine.Name.TheVariants.{Reg, Flag, Fs, Gs, T, B, S}
 use Rattle.micro_ir.specs.Rule.{is_flow_target}
@@ -19,10 +19,10 @@ abbrev pub row_or_temps : NameSet → (ℕ → Bool) → NameSet
 row_or_temps row temps (T n) = temps n
 row_or_temps row temps n = row n
 
--- The temporaries that are live at a place: those that are known to be, and of the others, where the block goes on,
--- those that live across blocks.
+-- The temporaries that are live at a place: those that are read before they are set, and of those that aren't set, where
+-- the block goes on, those that live across blocks.
 abbrev pub temps_within : (ℕ → Bool) → Seen → ℕ → Bool
-temps_within across s n = unwrap_or (tree.get nat_cmp s.temps n) (s.goes_on && across n)
+temps_within across s n = set.contains nat_cmp s.live n || (s.goes_on && (across n && not (set.contains nat_cmp s.dead n)))
 
 -- what is live at a place
 abbrev pub names_within : (ℕ → Bool) → Seen → NameSet

@@ -39,7 +39,7 @@ impl Seen {
     }
 
     /// Goes back over a statement that somebody sees.
-    fn go_back(&mut self, s: &Stmt) -> Result<(), AllocError>
+    pub fn go_back(&mut self, s: &Stmt) -> Result<(), AllocError>
         ensures { OnOk result (GoesBack s.now self.old self.new) }
     {
         match s {

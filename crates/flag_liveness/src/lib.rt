@@ -3,16 +3,17 @@
 //! Promised are sets of live names that are closed, and a flow that keeps the runs of the old one.
 #![tactic(auto)]
 
+mod across;
 mod before;
-mod clean;
+mod cleaning;
 mod laws;
 mod live;
 mod names;
 mod row;
 mod seen;
+mod settle;
 
-pub use clean::clean_by;
+pub use cleaning::clean;
 pub use laws::cleaning_keeps;
 pub use live::Live;
-pub use row::Row;
-pub use seen::Seen;
+pub use settle::liveness;

@@ -7,9 +7,9 @@ ghost use Rattle.dream_words.specs.declared.machine.Name.{Name as AnyName};
 ghost use Rattle.flag_liveness.specs.Before.{live_at};
 ghost use Rattle.flag_liveness.specs.Rows.{row_names, SameRow};
 ghost use Rattle.flag_liveness.specs.Within.{names_within, Agree};
-ghost use Rattle.flag_liveness.specs.Lives.{live_of, row_in, across_of};
+ghost use Rattle.flag_liveness.specs.Lives.{live_of, held_in, row_in, across_of};
 
-
+use crate::names::is_flow_target;
 use crate::row::Row;
 use crate::seen::Seen;
 use dream_words::Name;
@@ -29,10 +29,17 @@ pub struct Live {
 }
 
 impl Live {
-    /// Whether a name is live at the beginning of a block. Each base counts as live, and so does every name past the last
-    /// block.
+    /// Whether a name is live at the beginning of a block. A name that no flow sets counts as live, and
+    /// so does every register and flag past the last block.
     pub fn is_live(&self, block: NodeId, n: Name) -> bool
         ensures { result ≡ live_of self.now block n }
+    {
+        !is_flow_target(n) || self.holds(block, n)
+    }
+
+    /// Whether a name is among those of a block.
+    fn holds(&self, block: NodeId, n: Name) -> bool
+        ensures { result ≡ held_in self.now block n }
     {
         match n {
             Name::T(k) => self.temps.contains(&k),
@@ -100,7 +107,7 @@ impl Live {
 
     /// The registers and flags that are live at one of two nodes.
     fn either_row(&self, a: NodeId, b: NodeId) -> Row
-        ensures { SameRow (row_names result) (λ n. live_of self.now a n || live_of self.now b n) }
+        ensures { SameRow (row_names result) (λ n. held_in self.now a n || held_in self.now b n) }
     {
         let mut row = self.row(a);
         row.add(&self.row(b));
@@ -109,7 +116,7 @@ impl Live {
 
     /// The registers and flags that are live at the node of a case.
     fn any_row(&self, cases: &[Case]) -> Row
-        ensures { SameRow (row_names result) (λ n. list_any (λ k. live_of self.now k n) (map (λ c. c.to) cases.now)) }
+        ensures { SameRow (row_names result) (λ n. list_any (λ k. held_in self.now k n) (map (λ c. c.to) cases.now)) }
     {
         let mut row = Row::none();
         for c in cases {

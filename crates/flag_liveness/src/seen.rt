@@ -11,14 +11,16 @@ use crate::row::Row;
 use dream_words::Name;
 use micro_ir::{Cond, Expr};
 use std::alloc::{AllocError, Global};
-use std::collections::{BTreeMap, BTreeSet};
+use std::collections::BTreeSet;
 
 /// The names that are live at a place within a block.
 #[derive(Drop)]
 pub struct Seen {
     pub row: Row,
-    /// The temporaries that the rest of the block reads or sets, and whether they are live.
-    pub temps: BTreeMap<u32, bool>,
+    /// The temporaries that are read before they are set.
+    pub live: BTreeSet<u32>,
+    /// Temporaries that are set.
+    pub dead: BTreeSet<u32>,
     /// Whether the block goes on to another one, so that temporaries may live across it.
     pub goes_on: bool,
 }
@@ -31,7 +33,8 @@ impl Seen {
     {
         Seen {
             row,
-            temps: BTreeMap::new(alloc),
+            live: BTreeSet::new(alloc),
+            dead: BTreeSet::new(alloc),
             goes_on,
         }
     }
@@ -50,10 +53,21 @@ impl Seen {
     fn has_temp(&self, k: u32, across: &BTreeSet<u32>) -> bool
         ensures { result ≡ temps_within (set.contains nat_cmp across.now) self.now k }
     {
-        match self.temps.get(&k) {
-            Some(live) => *live,
-            None => self.goes_on && across.contains(&k),
+        self.live.contains(&k) || (self.goes_on && across.contains(&k) && !self.dead.contains(&k))
+    }
+
+    /// Makes a temporary live, or not.
+    fn set_temp(&mut self, k: u32, live: bool) -> Result<(), AllocError>
+        ensures row { self.new.row ≡ self.old.row }
+        ensures temps { OnOk result ((across : ℕ → Bool) (j : ℕ) → temps_within across self.new j ≡ (if nat_eq k j then live else temps_within across self.old j)) }
+    {
+        if live {
+            self.live.insert(k)?;
+        } else {
+            self.live.remove(&k);
+            self.dead.insert(k)?;
         }
+        Ok(())
     }
 
     /// Makes a name live, or not.
@@ -61,10 +75,7 @@ impl Seen {
         ensures { OnOk result ((across : ℕ → Bool) → Agree (names_within across self.new) (λ m. if same_name n m then live else names_within across self.old m)) }
     {
         match n {
-            Name::T(k) => {
-                self.temps.insert(k, live)?;
-                Ok(())
-            }
+            Name::T(k) => self.set_temp(k, live),
             _ => {
                 self.row.set(n, live);
                 Ok(())

@@ -5,6 +5,7 @@ ghost use Rattle.std.specs.Ordering.{nat_cmp};
 ghost use Rattle.std.specs.BTreeSet as set;
 ghost use Rattle.micro_ir.specs.Rule.{IsGiven, KeepsRule, are_flow_stmts, is_flow_block, are_flow_blocks};
 ghost use Rattle.flow_passes.specs.Uses.{NameSet};
+ghost use Rattle.flow_passes.specs.Keeps.{Keeps};
 ghost use Rattle.flag_liveness.specs.Before.{is_unseen, live_before};
 ghost use Rattle.flag_liveness.specs.Within.{names_within, Agree};
 ghost use Rattle.flag_liveness.specs.Lives.{live_of};
@@ -12,13 +13,25 @@ ghost use Rattle.flag_liveness.specs.Clean.{cleaned, cleaned_block, cleaned_flow
 
 use crate::live::Live;
 use crate::seen::Seen;
+use crate::settle::liveness;
 use micro_ir::{Block, Flow, Stmt};
 use sqlite_items::Items;
 use std::alloc::{AllocError, Global};
 use std::collections::BTreeSet;
 
-/// The flow without what nobody sees.
-pub fn clean_by(alloc: Global, f: Flow, live: &Live) -> Result<Flow, AllocError>
+/// The flow without what nobody sees: a Set of a name that isn't live afterwards, or of a name to itself.
+pub fn clean(alloc: Global, f: Flow) -> Result<Flow, AllocError>
+    requires { IsGiven f }
+    ensures given { IfOk result (λ r. IsGiven r) }
+    ensures keeps { IfOk result (λ r. Keeps f r) }
+{
+    let live = liveness(alloc, &f)?;
+    let made = clean_by(alloc, f, &live)?;
+    Ok(made)
+}
+
+/// The flow without what nobody sees, by sets of live names.
+pub(crate) fn clean_by(alloc: Global, f: Flow, live: &Live) -> Result<Flow, AllocError>
     requires { KeepsRule f }
     ensures { IfOk result (λ r. r ≡ cleaned_flow (live_of live.now) f) }
 {
