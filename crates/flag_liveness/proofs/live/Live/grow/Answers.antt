@@ -7,7 +7,7 @@ use Rattle.flag_liveness.proofs.live.Live.grow.Goals as goal
 
 pub returns : goal.returns
 returns c =
-    let read : get_or c.args.self.now.rows.items c.args.k c.index_mut.result.now ≡ c.index_mut.result.now = first_of (sym c.index_mut.ensures.value, c.index_mut.ensures.value, cc, search rules) in
+    let read : get_or c.args.self.now.rows.items c.args.k c.index_mut.result.now ≡ c.index_mut.result.now = first_of (cc, search rules, search (rules, c.index_mut.ensures.value), grind (c.index_mut.ensures.value)) in
     let at : slice_get c.args.self.now.rows.items c.args.k ≡ Some c.index_mut.result.now = slice_get_read c.args.self.now.rows.items (length c.args.self.now.rows.items) c.args.k c.index_mut.result.now refl c.requires.inside (sym read) in
     record {
       temps = refl;
