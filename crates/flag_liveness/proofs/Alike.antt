@@ -67,6 +67,7 @@ other_word m x after w u h a n t = a n t ∙ sym (set_other w.names m n x (apart
   dead : (b : Bool) → not b ≡ true → b ≡ true → ⊥
   dead true p q = false≢true p
   dead false p q = false≢true q
+
   apart : (b : Bool) → same_name m n ≡ b → b ≡ false
   apart false e = refl
   apart true e = absurd (dead (after m) h (ap after (same_is m n e) ∙ t))

@@ -28,16 +28,16 @@ go_alike : (f : Flow) (live : ℕ → NameSet) → IsGiven f → AreLive f live 
 go_alike f live g h = record {
   count = length-map f.blocks (cleaned_block live);
   blocks = λ n b c e d w u i j a.
-    subst (λ x. ArrivesAlike live (block_leads b w) (block_leads x u)) (sym (mapped_is (cleaned_block live) f.blocks n b c e d))
-    (block_alike live b w u (block_rule f.blocks n b e g.rule) i j (alike_within (live_in b live) (live n) w u (h n b e) a));
+      subst (λ x. ArrivesAlike live (block_leads b w) (block_leads x u)) (sym (mapped_is (cleaned_block live) f.blocks n b c e d))
+      (block_alike live b w u (block_rule f.blocks n b e g.rule) i j (alike_within (live_in b live) (live n) w u (h n b e) a));
 }
 
 checked : (f : Flow) (live : ℕ → NameSet) → IsChecked f → IsChecked (cleaned_flow live f)
 checked f live h = record {
   entry_inside = subst (λ n. f.entry < n) (sym (length-map f.blocks (cleaned_block live))) h.entry_inside;
   nodes_inside = λ n a c e i.
-    let p = unmapped (cleaned_block live) f.blocks n c e in
-    subst (λ k. a < k) (sym (length-map f.blocks (cleaned_block live))) (h.nodes_inside n a p.0 p.1 (subst (λ x. Contains (nodes_of x.end) a) p.2 i));
+      let p = unmapped (cleaned_block live) f.blocks n c e in
+      subst (λ k. a < k) (sym (length-map f.blocks (cleaned_block live))) (h.nodes_inside n a p.0 p.1 (subst (λ x. Contains (nodes_of x.end) a) p.2 i));
 }
 
 given : (f : Flow) (live : ℕ → NameSet) → IsGiven f → IsGiven (cleaned_flow live f)
@@ -49,9 +49,12 @@ given f live g = record {
 }
 
 pub cleaning_keeps : CleaningKeeps
-cleaning_keeps f live g h = (given f live g, record {
-  entry = refl;
-  count = length-map f.blocks (cleaned_block live);
-  blocks = λ n b c e d. subst (λ x. KeepsBlock b x) (sym (mapped_is (cleaned_block live) f.blocks n b c e d)) (keeps_block live b);
-  runs = going_alike_keeps_runs f (cleaned_flow live f) live g.rule (blocks_rule live f.blocks g.rule) refl (go_alike f live g h);
-})
+cleaning_keeps f live g h = (
+  given f live g,
+  record {
+    entry = refl;
+    count = length-map f.blocks (cleaned_block live);
+    blocks = λ n b c e d. subst (λ x. KeepsBlock b x) (sym (mapped_is (cleaned_block live) f.blocks n b c e d)) (keeps_block live b);
+    runs = going_alike_keeps_runs f (cleaned_flow live f) live g.rule (blocks_rule live f.blocks g.rule) refl (go_alike f live g h);
+  },
+)
