@@ -1,0 +1,13 @@
+pub mod Adding
+pub mod Back
+pub mod Cases
+pub mod Ends
+pub mod Setting
+pub mod Alike
+pub mod Kept
+pub mod Keeping
+pub mod Making
+pub mod Going
+pub mod Closing
+pub mod Growing
+pub mod Crossing
