@@ -8,8 +8,15 @@ use Rattle.elf_image.specs.declared.image.Segment.{Segment}
 use Rattle.elf_image.specs.declared.range.Range.{Range}
 use Rattle.dream_words.specs.declared.outcome.Outcome.{Outcome}
 use Rattle.dream_words.specs.Agreement.{Agreeing}
-use Rattle.machine.specs.Run.{machine_run}
+use Rattle.dream_words.specs.declared.outcome.Start.{Start}
+use Rattle.dream_words.specs.declared.outcome.Answer.{Answer}
+use Rattle.dream_words.specs.Ranges.{AreAnswers}
+use Rattle.x86_inst.specs.declared.Inst.{Inst}
+use Rattle.machine.specs.Code.{Decodes}
+use Rattle.machine.specs.Run.{IsStart, machine_run}
 use Rattle.micro_ir.specs.declared.flow.Flow.{Flow}
+use Rattle.micro_ir.specs.Rule.{IsGiven}
+use Rattle.micro_ir.specs.Run.{flow_run}
 use Rattle.guarded.specs.declared.tree.Tree.{Tree}
 use Rattle.guarded.specs.Formed.{IsWellFormed as TreeIsWellFormed}
 use Rattle.c_syntax.specs.declared.syntax.CFun.{CFun}
@@ -17,21 +24,39 @@ use Rattle.c_emit.specs.Laws.{IsTreeOf}
 use Rattle.flow_graph.specs.Place.{HasNoPlace}
 use Rattle.range_flow.specs.Flow.{AreCovering, IsFlowOf}
 use Rattle.range_flow.proofs.RangePlan.{flows_agree}
+use Rattle.flow_passes.specs.Keeps.{Keeps}
+use Rattle.flow_passes.proofs.Agreed.{changed_agree}
 use Rattle.regions.specs.Follows.{Follows}
 use Rattle.regions.proofs.Agreed.{following}
 use Rattle.regions.specs.Laws.{IsPlainOf, IsStraightOf}
 use Rattle.dream_engine.specs.declared.form.Form.{Form}
 use Rattle.dream_engine.specs.declared.form.Form.TheVariants.{Structured, Plain}
 use Rattle.dream_engine.specs.Agreement.{Agrees, HasTurnsAtHeads, HasForm, IsSelectorLoop, IsStraightLine, IsFunctionOf}
+use Rattle.dream_engine.specs.Short.{IsShortOf}
 use Rattle.dream_engine.specs.Tree.{IsPlannedOf, IsTreeIn}
 
+-- a flow that keeps another is short for it
+pub short_of : (f short : Flow) → IsGiven short → Keeps f short → IsShortOf f short
+short_of f short given keeps = record {
+  given = given;
+  agrees = λ machine start answers r a. changed_agree.kept machine f short start answers r keeps.runs a;
+}
+
+-- the machine agrees with a flow that is short for that of the range
+short_agrees : (m : List Segment) (r : Range) (places : List ℕ) (flow short : Flow) → AreCovering m r places → IsFlowOf m r places flow → IsShortOf flow short
+    → (decoded : ℕ → Option (Inst × ℕ)) → Decodes m r decoded → (start : Start) → IsStart m start → (answers : List Answer) → AreAnswers answers
+    → Agreeing (machine_run m r decoded start answers) (flow_run short start answers)
+short_agrees m r places flow short covering is for decoded d start s answers a =
+    for.agrees (machine_run m r decoded start answers) start answers (record { regs = s.regs; fs = s.fs; gs = s.gs; mem = s.bytes; answered = a })
+    (flows_agree m r decoded places flow start answers d covering is s a)
+
 -- what the tree's function agrees with
-agrees_by : (m : List Segment) (r : Range) (places : List ℕ) (flow : Flow) (t : Tree) (f : CFun) → AreCovering m r places → IsFlowOf m r places flow → Follows flow t → IsTreeOf t f
-    → f.address ≡ r.entry → Agrees m r f
-agrees_by m r places flow t f covering is follows of e = record {
+agrees_by : (m : List Segment) (r : Range) (places : List ℕ) (flow short : Flow) (t : Tree) (f : CFun) → AreCovering m r places → IsFlowOf m r places flow → IsShortOf flow short
+    → Follows short t → IsTreeOf t f → f.address ≡ r.entry → Agrees m r f
+agrees_by m r places flow short t f covering is for follows of e = record {
   address = e;
   runs = λ decoded d start s answers a. subst (λ run. Agreeing (machine_run m r decoded start answers) run) (sym (fun_ext (λ k. of.runs start answers k)))
-      (following (machine_run m r decoded start answers) flow t start answers (flows_agree m r decoded places flow start answers d covering is s a) follows);
+      (following (machine_run m r decoded start answers) short t start answers (short_agrees m r places flow short covering is for decoded d start s answers a) follows);
 }
 
 plain_form : (flow : Flow) (t : Tree) (f : CFun) → IsPlainOf flow t → IsTreeOf t f → IsSelectorLoop f
@@ -41,21 +66,21 @@ straight_form : (flow : Flow) (t : Tree) (f : CFun) → IsStraightOf flow t → 
 straight_form flow t f p of = (of.loops ∙ p.loops, of.tests ∙ p.tests, of.selectors p.formed ∙ p.selectors)
 
 -- the turns of a planned tree are those of its function
-planned_form : (m : List Segment) (r : Range) (places : List ℕ) (flow : Flow) (t : Tree) (f : CFun) → AreCovering m r places → IsFlowOf m r places flow → IsPlannedOf flow t → IsTreeOf t f
-    → HasTurnsAtHeads m r f
-planned_form m r places flow t f covering is p of = record {
-  flow = flow;
+planned_form : (m : List Segment) (r : Range) (places : List ℕ) (flow short : Flow) (t : Tree) (f : CFun) → AreCovering m r places → IsFlowOf m r places flow → IsShortOf flow short
+    → IsPlannedOf short t → IsTreeOf t f → HasTurnsAtHeads m r f
+planned_form m r places flow short t f covering is for p of = record {
+  flow = short;
   head = p.0;
-  agrees = λ decoded d start s answers a. flows_agree m r decoded places flow start answers d covering is s a;
+  agrees = short_agrees m r places flow short covering is for;
   turns = λ start answers never k ended. of.runs start answers _ ∙ p.1.turns start answers never k ended;
 }
 
-has_form : (form : Form) (m : List Segment) (r : Range) (places : List ℕ) (flow : Flow) (t : Tree) (f : CFun) → AreCovering m r places → IsFlowOf m r places flow → IsTreeIn form flow t
-    → IsTreeOf t f → HasForm form m r f
-has_form Plain m r places flow t f covering is p of = plain_form flow t f p of
-has_form Structured m r places flow t f covering is (inl p) of = inl (straight_form flow t f p of)
-has_form Structured m r places flow t f covering is (inr (inl p)) of = inr (inl (planned_form m r places flow t f covering is p of))
-has_form Structured m r places flow t f covering is (inr (inr p)) of = inr (inr (plain_form flow t f p of))
+has_form : (form : Form) (m : List Segment) (r : Range) (places : List ℕ) (flow short : Flow) (t : Tree) (f : CFun) → AreCovering m r places → IsFlowOf m r places flow
+    → IsShortOf flow short → IsTreeIn form short t → IsTreeOf t f → HasForm form m r f
+has_form Plain m r places flow short t f covering is for p of = plain_form short t f p of
+has_form Structured m r places flow short t f covering is for (inl p) of = inl (straight_form short t f p of)
+has_form Structured m r places flow short t f covering is for (inr (inl p)) of = inr (inl (planned_form m r places flow short t f covering is for p of))
+has_form Structured m r places flow short t f covering is for (inr (inr p)) of = inr (inr (plain_form short t f p of))
 
 tree_formed : (form : Form) (flow : Flow) (t : Tree) → IsTreeIn form flow t → TreeIsWellFormed t
 tree_formed Plain flow t p = p.formed
@@ -70,17 +95,17 @@ tree_follows Structured flow t (inr (inl p)) = p.1.follows
 tree_follows Structured flow t (inr (inr p)) = p.follows
 
 -- all of it
-pub composed : (form : Form) (m : List Segment) (r : Range) (places : List ℕ) (flow : Flow) (t : Tree) (f : CFun) → HasNoPlace m r → AreCovering m r places
-    → IsFlowOf m r places flow → IsTreeIn form flow t → IsTreeOf t f → f.address ≡ r.entry → IsFunctionOf form m r f
-composed form m r places flow t f none covering is p of e = record {
+pub composed : (form : Form) (m : List Segment) (r : Range) (places : List ℕ) (flow short : Flow) (t : Tree) (f : CFun) → HasNoPlace m r → AreCovering m r places
+    → IsFlowOf m r places flow → IsShortOf flow short → IsTreeIn form short t → IsTreeOf t f → f.address ≡ r.entry → IsFunctionOf form m r f
+composed form m r places flow short t f none covering is for p of e = record {
   no_place = none;
-  formed = of.formed (tree_formed form flow t p);
-  in_form = has_form form m r places flow t f covering is p of;
-  agrees = agrees_by m r places flow t f covering is (tree_follows form flow t p) of e;
+  formed = of.formed (tree_formed form short t p);
+  in_form = has_form form m r places flow short t f covering is for p of;
+  agrees = agrees_by m r places flow short t f covering is for (tree_follows form short t p) of e;
 }
 
 -- the function that is made of the tree, where one is
-pub composed_result : (form : Form) (m : List Segment) (r : Range) (places : List ℕ) (flow : Flow) (t : Tree) (o : Result CFun AllocError) → HasNoPlace m r → AreCovering m r places
-    → IsFlowOf m r places flow → IsTreeIn form flow t → IfOk o (λ f. f ≡ emitted t r.entry) → IfOk o (λ f. IsTreeOf t f) → IfOk o (IsFunctionOf form m r)
-composed_result form m r places flow t (Ok f) none covering is p e of = composed form m r places flow t f none covering is p of (ap (λ g. g.address) e)
-composed_result form m r places flow t (Err x) none covering is p e of = tt
+pub composed_result : (form : Form) (m : List Segment) (r : Range) (places : List ℕ) (flow short : Flow) (t : Tree) (o : Result CFun AllocError) → HasNoPlace m r → AreCovering m r places
+    → IsFlowOf m r places flow → IsShortOf flow short → IsTreeIn form short t → IfOk o (λ f. f ≡ emitted t r.entry) → IfOk o (λ f. IsTreeOf t f) → IfOk o (IsFunctionOf form m r)
+composed_result form m r places flow short t (Ok f) none covering is for p e of = composed form m r places flow short t f none covering is for p of (ap (λ g. g.address) e)
+composed_result form m r places flow short t (Err x) none covering is for p e of = tt
