@@ -10,6 +10,7 @@ use Rattle.dream_words.specs.declared.outcome.Outcome.{Outcome}
 use Rattle.dream_words.specs.Agreement.{Agreeing}
 use Rattle.machine.specs.Run.{machine_run}
 use Rattle.micro_ir.specs.declared.flow.Flow.{Flow}
+use Rattle.micro_ir.specs.Rule.{IsGiven}
 use Rattle.guarded.specs.declared.tree.Tree.{Tree}
 use Rattle.guarded.specs.Formed.{IsWellFormed as TreeIsWellFormed}
 use Rattle.c_syntax.specs.declared.syntax.CFun.{CFun}
@@ -17,21 +18,36 @@ use Rattle.c_emit.specs.Laws.{IsTreeOf}
 use Rattle.flow_graph.specs.Place.{HasNoPlace}
 use Rattle.range_flow.specs.Flow.{AreCovering, IsFlowOf}
 use Rattle.range_flow.proofs.RangePlan.{flows_agree}
+use Rattle.flow_passes.specs.Keeps.{Keeps, JoinsRuns}
+use Rattle.flow_passes.proofs.Keeping.{keeping_composes}
+use Rattle.flow_passes.proofs.Agreed.{changed_agree}
 use Rattle.regions.specs.Follows.{Follows}
 use Rattle.regions.proofs.Agreed.{following}
 use Rattle.regions.specs.Laws.{IsPlainOf, IsStraightOf}
 use Rattle.dream_engine.specs.declared.form.Form.{Form}
 use Rattle.dream_engine.specs.declared.form.Form.TheVariants.{Structured, Plain}
 use Rattle.dream_engine.specs.Agreement.{Agrees, HasForm, IsSelectorLoop, IsStraightLine, IsFunctionOf}
+use Rattle.dream_engine.specs.Short.{IsShortOf}
 use Rattle.dream_engine.specs.Tree.{IsTreeIn}
 
+-- a flow that keeps what joins another is short for that
+pub short_of : (f joined cleaned folded short : Flow) → IsGiven short → JoinsRuns f joined → Keeps joined cleaned → Keeps cleaned folded → Keeps folded short → IsShortOf f short
+short_of f joined cleaned folded short given joins first second third = record {
+  given = given;
+  agrees = λ machine start answers r a.
+      let kept = keeping_composes.twice joined folded short (keeping_composes.twice joined cleaned folded first second) third in
+      changed_agree.kept machine joined short start answers r kept.runs (changed_agree.joined machine f joined start answers joins a);
+}
+
 -- what the tree's function agrees with
-agrees_by : (m : List Segment) (r : Range) (places : List ℕ) (flow : Flow) (t : Tree) (f : CFun) → AreCovering m r places → IsFlowOf m r places flow → Follows flow t → IsTreeOf t f
-    → f.address ≡ r.entry → Agrees m r f
-agrees_by m r places flow t f covering is follows of e = record {
+agrees_by : (m : List Segment) (r : Range) (places : List ℕ) (flow short : Flow) (t : Tree) (f : CFun) → AreCovering m r places → IsFlowOf m r places flow → IsShortOf flow short
+    → Follows short t → IsTreeOf t f → f.address ≡ r.entry → Agrees m r f
+agrees_by m r places flow short t f covering is for follows of e = record {
   address = e;
   runs = λ decoded d start s answers a. subst (λ run. Agreeing (machine_run m r decoded start answers) run) (sym (fun_ext (λ k. of.runs start answers k)))
-      (following (machine_run m r decoded start answers) flow t start answers (flows_agree m r decoded places flow start answers d covering is s a) follows);
+      (following (machine_run m r decoded start answers) short t start answers
+        (for.agrees (machine_run m r decoded start answers) start answers (record { regs = s.regs; fs = s.fs; gs = s.gs; mem = s.bytes; answered = a })
+          (flows_agree m r decoded places flow start answers d covering is s a)) follows);
 }
 
 plain_form : (flow : Flow) (t : Tree) (f : CFun) → IsPlainOf flow t → IsTreeOf t f → IsSelectorLoop f
@@ -56,17 +72,17 @@ tree_follows Structured flow t (inl p) = p.follows
 tree_follows Structured flow t (inr p) = p.follows
 
 -- all of it
-pub composed : (form : Form) (m : List Segment) (r : Range) (places : List ℕ) (flow : Flow) (t : Tree) (f : CFun) → HasNoPlace m r → AreCovering m r places
-    → IsFlowOf m r places flow → IsTreeIn form flow t → IsTreeOf t f → f.address ≡ r.entry → IsFunctionOf form m r f
-composed form m r places flow t f none covering is p of e = record {
+pub composed : (form : Form) (m : List Segment) (r : Range) (places : List ℕ) (flow short : Flow) (t : Tree) (f : CFun) → HasNoPlace m r → AreCovering m r places
+    → IsFlowOf m r places flow → IsShortOf flow short → IsTreeIn form short t → IsTreeOf t f → f.address ≡ r.entry → IsFunctionOf form m r f
+composed form m r places flow short t f none covering is for p of e = record {
   no_place = none;
-  formed = of.formed (tree_formed form flow t p);
-  in_form = has_form form flow t f p of;
-  agrees = agrees_by m r places flow t f covering is (tree_follows form flow t p) of e;
+  formed = of.formed (tree_formed form short t p);
+  in_form = has_form form short t f p of;
+  agrees = agrees_by m r places flow short t f covering is for (tree_follows form short t p) of e;
 }
 
 -- the function that is made of the tree, where one is
-pub composed_result : (form : Form) (m : List Segment) (r : Range) (places : List ℕ) (flow : Flow) (t : Tree) (o : Result CFun AllocError) → HasNoPlace m r → AreCovering m r places
-    → IsFlowOf m r places flow → IsTreeIn form flow t → IfOk o (λ f. f ≡ emitted t r.entry) → IfOk o (λ f. IsTreeOf t f) → IfOk o (IsFunctionOf form m r)
-composed_result form m r places flow t (Ok f) none covering is p e of = composed form m r places flow t f none covering is p of (ap (λ g. g.address) e)
-composed_result form m r places flow t (Err x) none covering is p e of = tt
+pub composed_result : (form : Form) (m : List Segment) (r : Range) (places : List ℕ) (flow short : Flow) (t : Tree) (o : Result CFun AllocError) → HasNoPlace m r → AreCovering m r places
+    → IsFlowOf m r places flow → IsShortOf flow short → IsTreeIn form short t → IfOk o (λ f. f ≡ emitted t r.entry) → IfOk o (λ f. IsTreeOf t f) → IfOk o (IsFunctionOf form m r)
+composed_result form m r places flow short t (Ok f) none covering is for p e of = composed form m r places flow short t f none covering is for p of (ap (λ g. g.address) e)
+composed_result form m r places flow short t (Err x) none covering is for p e of = tt

@@ -8,6 +8,7 @@ ghost use Rattle.flow_graph.specs.Place.{HasNoPlace, HasNoText};
 ghost use Rattle.micro_ir.specs.Rule.{IsGiven};
 
 use crate::form::Form;
+use crate::short::shortened;
 use c_emit::emit;
 use c_print::print;
 use c_syntax::{CFun, canonical_stands};
@@ -46,7 +47,8 @@ fn function_of(
     ensures { IfOk result (IsFunctionOf form m.now r.now) }
 {
     let flow = flow_of(alloc, m, r, found)?;
-    let tree = tree_of(alloc, &flow, form)?;
+    let short = shortened(alloc, flow)?;
+    let tree = tree_of(alloc, &short, form)?;
     emit(alloc, &tree, r.entry)
 }
 

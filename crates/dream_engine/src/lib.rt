@@ -5,6 +5,7 @@
 
 mod decompile;
 mod form;
+mod short;
 
 pub use decompile::{decompile_fun, decompile_one};
 pub use form::Form;
