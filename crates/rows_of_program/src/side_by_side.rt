@@ -10,7 +10,7 @@ use std::test::Fail;
 #[test]
 fn runs_beside_the_machine(rt: HostRuntime) -> Result<(), Fail> {
     let alloc = rt.alloc();
-    let cases: [(&[u8], &str, &str, &str, &str, &str); 16] = [
+    let cases: [(&[u8], &str, &str, &str, &str, &str); 17] = [
         // The absolute value of an argument.
         (
             &[
@@ -137,6 +137,15 @@ fn runs_beside_the_machine(rt: HostRuntime) -> Result<(), Fail> {
             "",
             "",
             "returned eax=00000001 ecx=00000001 edx=00000000 ebx=00000000 esp=bfff0004 ebp=00000000 esi=00000000 edi=00000000 calls=0 changed=0\nreturned eax=00000001 ecx=00000001 edx=00000000 ebx=00000000 esp=bfff0004 ebp=00000000 esi=00000000 edi=00000000 calls=0 changed=0\n",
+        ),
+        // A load that comes before a store to its address.
+        (
+            &[0x8b, 0x01, 0xc7, 0x02, 0x07, 0, 0, 0, 0xc3],
+            "0x08048100+9",
+            "ecx=0x20000000",
+            "edx=0x20000000",
+            "",
+            "returned eax=00000000 ecx=20000000 edx=20000000 ebx=00000000 esp=bfff0004 ebp=00000000 esi=00000000 edi=00000000 calls=0 changed=1\nreturned eax=00000000 ecx=20000000 edx=20000000 ebx=00000000 esp=bfff0004 ebp=00000000 esi=00000000 edi=00000000 calls=0 changed=1\n",
         ),
         // A masked count.
         (

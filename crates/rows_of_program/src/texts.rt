@@ -84,6 +84,41 @@ fn prints_straight_lines(rt: HostRuntime) -> Result<(), Fail> {
     Ok(())
 }
 
+// Functions by their code, and what doesn't stand in their texts.
+#[test]
+fn prints_words_in_place(rt: HostRuntime) -> Result<(), Fail> {
+    let alloc = rt.alloc();
+    let cases: [(&[u8], &str, &str); 6] = [
+        // A sum with 0 adds nothing.
+        (&[0x83, 0xc0, 0x00, 0xc3], "0x08048100+4", " + 0x0u"),
+        // A sum of registers, whose flags nothing reads, needs no local and sets no flag.
+        (&[0x89, 0xc8, 0x01, 0xd0, 0xc3], "0x08048100+5", "uint32_t"),
+        (&[0x89, 0xc8, 0x01, 0xd0, 0xc3], "0x08048100+5", "cf = "),
+        (&[0x89, 0xc8, 0x01, 0xd0, 0xc3], "0x08048100+5", "zf = "),
+        // The sign that a branch reads stands in its condition.
+        (
+            &[
+                0x8b, 0x44, 0x24, 0x04, 0x85, 0xc0, 0x79, 0x02, 0xf7, 0xd8, 0xc3,
+            ],
+            "0x08048100+b",
+            "sf",
+        ),
+        (
+            &[
+                0x8b, 0x44, 0x24, 0x04, 0x85, 0xc0, 0x79, 0x02, 0xf7, 0xd8, 0xc3,
+            ],
+            "0x08048100+b",
+            "of",
+        ),
+    ];
+    for (code, func, absent) in cases {
+        let ran = decompile(alloc, elf(alloc, code)?, func)?;
+        assert!(rt; ran.status == Status::Done, "{func}");
+        assert_eq!(rt; count(ran.out.bytes(), absent)?, 0, "{absent}");
+    }
+    Ok(())
+}
+
 // How often a word stands in a text.
 fn count(text: &[u8], word: &str) -> Result<usize, Fail> {
     Ok(std::str::from_utf8(text)?.matches(word).count())
