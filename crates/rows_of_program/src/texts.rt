@@ -84,31 +84,28 @@ fn prints_straight_lines(rt: HostRuntime) -> Result<(), Fail> {
     Ok(())
 }
 
-// Functions by their code, and what doesn't stand in their texts.
+// Functions by their code, and what doesn't stand in their texts: flags that nothing reads.
 #[test]
-fn prints_words_in_place(rt: HostRuntime) -> Result<(), Fail> {
+fn sets_no_dead_flags(rt: HostRuntime) -> Result<(), Fail> {
     let alloc = rt.alloc();
-    let cases: [(&[u8], &str, &str); 6] = [
-        // A sum with 0 adds nothing.
-        (&[0x83, 0xc0, 0x00, 0xc3], "0x08048100+4", " + 0x0u"),
-        // A sum of registers, whose flags nothing reads, needs no local and sets no flag.
-        (&[0x89, 0xc8, 0x01, 0xd0, 0xc3], "0x08048100+5", "uint32_t"),
+    let cases: [(&[u8], &str, &str); 4] = [
+        // A sum of registers.
         (&[0x89, 0xc8, 0x01, 0xd0, 0xc3], "0x08048100+5", "cf = "),
         (&[0x89, 0xc8, 0x01, 0xd0, 0xc3], "0x08048100+5", "zf = "),
-        // The sign that a branch reads stands in its condition.
+        // A branch on the sign of a word reads no parity, and a negation that nothing asks for sets nothing.
         (
             &[
                 0x8b, 0x44, 0x24, 0x04, 0x85, 0xc0, 0x79, 0x02, 0xf7, 0xd8, 0xc3,
             ],
             "0x08048100+b",
-            "sf",
+            "pf = ",
         ),
         (
             &[
                 0x8b, 0x44, 0x24, 0x04, 0x85, 0xc0, 0x79, 0x02, 0xf7, 0xd8, 0xc3,
             ],
             "0x08048100+b",
-            "of",
+            "of = ",
         ),
     ];
     for (code, func, absent) in cases {
@@ -124,39 +121,73 @@ fn count(text: &[u8], word: &str) -> Result<usize, Fail> {
     Ok(std::str::from_utf8(text)?.matches(word).count())
 }
 
-// Functions by their code: how many loops and switches their texts have, structured and plain.
+// Functions by their code: how many loops, selectors and tests their structured texts have. The plain text is one loop round one
+// switch.
 #[test]
 fn decompiles_in_two_forms(rt: HostRuntime) -> Result<(), Fail> {
     let alloc = rt.alloc();
-    let cases: [(&[u8], &str, usize); 8] = [
+    let cases: [(&[u8], &str, usize, usize, Option<usize>); 9] = [
         // Straight lines: sums of registers, a call to the entry, a jump through a bare address, a return past a pushed word.
-        (&[0x89, 0xc8, 0x01, 0xd0, 0xc3], "0x08048100+5", 0),
-        (&[0xe8, 0xfb, 0xff, 0xff, 0xff, 0xc3], "0x08048100+6", 0),
-        (&[0xff, 0x25, 0x0c, 0xa0, 0x04, 0x08], "0x08048100+6", 0),
-        (&[0x50, 0xc3], "0x08048100+2", 0),
-        // A loop of additions, an empty loop, a branch, and a repeated string instruction.
+        (
+            &[0x89, 0xc8, 0x01, 0xd0, 0xc3],
+            "0x08048100+5",
+            0,
+            0,
+            Some(0),
+        ),
+        (
+            &[0xe8, 0xfb, 0xff, 0xff, 0xff, 0xc3],
+            "0x08048100+6",
+            0,
+            0,
+            Some(0),
+        ),
+        (
+            &[0xff, 0x25, 0x0c, 0xa0, 0x04, 0x08],
+            "0x08048100+6",
+            0,
+            0,
+            Some(0),
+        ),
+        (&[0x50, 0xc3], "0x08048100+2", 0, 0, Some(0)),
+        // A loop of additions, an empty loop, a branch, a repeated string instruction, and a cycle that is entered twice.
         (
             &[
                 0x31, 0xc0, 0x8b, 0x4c, 0x24, 0x04, 0x01, 0xc8, 0x49, 0x75, 0xfb, 0xc3,
             ],
             "0x08048100+c",
             1,
+            0,
+            None,
         ),
-        (&[0xeb, 0xfe], "0x08048100+2", 1),
+        (&[0xeb, 0xfe], "0x08048100+2", 1, 0, Some(0)),
         (
             &[
                 0x8b, 0x44, 0x24, 0x04, 0x85, 0xc0, 0x79, 0x02, 0xf7, 0xd8, 0xc3,
             ],
             "0x08048100+b",
-            1,
+            0,
+            0,
+            Some(1),
         ),
-        (&[0xf3, 0xab, 0xc3], "0x08048100+3", 1),
+        (&[0xf3, 0xab, 0xc3], "0x08048100+3", 1, 0, None),
+        (
+            &[0x85, 0xc0, 0x74, 0x01, 0x48, 0x49, 0x75, 0xfc, 0xc3],
+            "0x08048100+9",
+            1,
+            1,
+            None,
+        ),
     ];
-    for (code, func, loops) in cases {
+    for (code, func, loops, selectors, tests) in cases {
         let ran = decompile(alloc, elf(alloc, code)?, func)?;
         assert!(rt; ran.status == Status::Done, "{func}");
         assert_eq!(rt; count(ran.out.bytes(), "while (1)")?, loops, "{func}");
-        assert_eq!(rt; count(ran.out.bytes(), "switch (s0)")?, loops, "{func}");
+        assert_eq!(rt; count(ran.out.bytes(), "uint32_t s")?, selectors, "{func}");
+        assert_eq!(rt; count(ran.out.bytes(), "switch (s0)")?, 0, "{func}");
+        if let Some(tests) = tests {
+            assert_eq!(rt; count(ran.out.bytes(), "if (")?, tests, "{func}");
+        }
         assert_eq!(rt; ran.notes.bytes().len(), 0, "{func}");
         let mut files = files(alloc, elf(alloc, code)?, Vec::new(alloc))?;
         let ran = call(alloc, &mut files, &["plain", "a", func], sink(alloc)?)?;
@@ -173,12 +204,10 @@ fn tells_of_drills(rt: HostRuntime) -> Result<(), Fail> {
     let mut files = files(alloc, elf(alloc, &MOVE)?, Vec::new(alloc))?;
     let ran = call(alloc, &mut files, &["drill", "500"], sink(alloc)?)?;
     assert!(rt; ran.status == Status::Done);
-    assert!(rt;
-        ran.out
-            .bytes()
-            .starts_with(b"functions=500 bytes=10060 accepted=500 components=188 ")
+    assert_eq!(rt;
+        ran.out.bytes(),
+        b"functions=500 bytes=10060 accepted=500 components=188 selectors=63 ext=62 stores=124\n".as_slice()
     );
-    assert!(rt; ran.out.bytes().ends_with(b"\n"));
     assert_eq!(rt; ran.notes.bytes().len(), 0);
     assert_eq!(rt; make_drill(alloc, 500)?.len(), 10_888);
     Ok(())
