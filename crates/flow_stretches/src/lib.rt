@@ -1,0 +1,14 @@
+//! Stretches of blocks of a flow, joined.
+//! Given are flows.
+//! Promised is a flow with a block for each stretch, whose runs are those of the given one.
+#![tactic(auto)]
+
+mod comers;
+mod ends;
+mod following;
+mod graph;
+mod joining;
+mod paths;
+mod stretches;
+
+pub use stretches::join_stretches;
