@@ -1,6 +1,6 @@
 //! Which block follows a block in its stretch.
 
-ghost use Rattle.std.specs.Prelude.{◌≡◌, ◌⊎◌, ◌<◌, ◌↔◌, ◌^◌, ⊥, ℕ, IfOk, IsTrue, Some, length};
+ghost use Rattle.std.specs.Prelude.{◌≡◌, ◌⊎◌, ◌<◌, ◌↔◌, ◌^◌, ℕ, IfOk, IsTrue, Some, length};
 ghost use Rattle.graph_order.specs.Graph.{IsMarked};
 ghost use Rattle.flow_stretches.specs.Joined.{IsFollowed};
 ghost use Rattle.flow_stretches.specs.Known.{IsKnown, NextIn, comers_at};

@@ -1,6 +1,6 @@
 //! The blocks of stretches.
 
-ghost use Rattle.std.specs.Prelude.{◌≡◌, ◌≢◌, ◌<◌, ⊥, ℕ, All, AllPairs, Contains, IfOk, OnOk, length, map, slice_set};
+ghost use Rattle.std.specs.Prelude.{◌≡◌, ◌≢◌, ◌<◌, ℕ, All, AllPairs, Contains, IfOk, OnOk, length, map, slice_set};
 ghost use Rattle.std.specs.List.{concat};
 ghost use Rattle.micro_ir.specs.Laws.{moved_case, moved_end};
 ghost use Rattle.flow_stretches.specs.Joined.{block_at, empty_block, join_of};

@@ -8,7 +8,9 @@ mod ends;
 mod following;
 mod graph;
 mod joining;
+mod laws;
 mod paths;
 mod stretches;
 
+pub use laws::{joined_is_given, joined_runs};
 pub use stretches::join_stretches;

@@ -1,6 +1,6 @@
 //! The nodes of stretches.
 
-ghost use Rattle.std.specs.Prelude.{◌≡◌, ◌<◌, ◌^◌, ⊥, ℕ, IfOk, length, map, take};
+ghost use Rattle.std.specs.Prelude.{◌≡◌, ◌<◌, ◌^◌, ℕ, IfOk, length, map, take};
 ghost use Rattle.graph_order.specs.Graph.{IsMarked};
 ghost use Rattle.flow_stretches.specs.Known.{NextIn, IsPath, AreNext, ArePaths, marked_from, name_by};
 

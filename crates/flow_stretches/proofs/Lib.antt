@@ -1,0 +1,4 @@
+pub mod Members
+pub mod Straight
+pub mod Reached
+pub mod Walking
