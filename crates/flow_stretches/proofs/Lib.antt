@@ -2,3 +2,11 @@ pub mod Members
 pub mod Straight
 pub mod Reached
 pub mod Walking
+pub mod Coming
+pub mod Taking
+pub mod Weights
+pub mod Places
+pub mod Follows
+pub mod Marking
+pub mod Planned
+pub mod Given

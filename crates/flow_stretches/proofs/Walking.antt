@@ -119,8 +119,8 @@ module _ (f g : Flow) (given : IsGiven f) (j : IsJoined f g) where
   -- the stretch of a first node
   pub stretch_at : (n : ℕ) → IsFirst f n → (ms : List ℕ) × (slice_get j.stretches (j.name n) ≡ Some (n ∷ ms)) × StretchFrom f n ms
   stretch_at n h =
-      let s = j.named n h in
-      (s.0, s.1, stretch_from f n s.0 (All-contains (IsStretch f) j.stretches (n ∷ s.0) j.each (contains_got j.stretches (j.name n) (n ∷ s.0) s.1)))
+      let s = j.are.named n h in
+      (s.0, s.1, stretch_from f n s.0 (All-contains (IsStretch f) j.stretches (n ∷ s.0) j.are.each (contains_got j.stretches (j.name n) (n ∷ s.0) s.1)))
 
   -- what its new block does
   new_block : (n : ℕ) (ms : List ℕ) (w : World) → slice_get j.stretches (j.name n) ≡ Some (n ∷ ms) → enter (slice_get g.blocks (j.name n)) w ≡ relocate j.name (path_joined f given n ms w)

@@ -73,15 +73,19 @@ join_of blocks name nodes = record {
   end = moved_end name (straight (block_at blocks (last_of nodes)).end);
 }
 
--- A flow has a block for each stretch of another one, in the order of their first nodes. Each node that is reached stands in
--- one stretch, once, and the name of a first node is the number of its stretch.
-pub record IsJoined (f g : Flow) : Type 0 where
-  pub stretches : List (List ℕ)
-  pub name : ℕ → ℕ
+-- The stretches of a flow, in the order of their first nodes. Each node that is reached stands in one stretch, once, and the
+-- name of a first node is the number of its stretch.
+pub record AreStretches (f : Flow) (stretches : List (List ℕ)) (name : ℕ → ℕ) : Type 0 where
   pub each : All (IsStretch f) stretches
   pub named : (n : ℕ) → IsFirst f n → (others : List ℕ) × (slice_get stretches (name n) ≡ Some (n ∷ others))
   pub once : AllPairs (λ a b. a ≢ b) (concat stretches)
   pub reached : (n : ℕ) → (Contains (concat stretches) n ↔ IsReached (graph_of f) n)
   pub ordered : IsStrictlyIncreasing (map first_of stretches)
+
+-- A flow has a block for each stretch of another one.
+pub record IsJoined (f g : Flow) : Type 0 where
+  pub stretches : List (List ℕ)
+  pub name : ℕ → ℕ
+  pub are : AreStretches f stretches name
   pub entry : g.entry ≡ name f.entry
   pub blocks : g.blocks ≡ map (join_of f.blocks name) stretches

@@ -1,10 +1,12 @@
 -- What the code knows of the blocks of a flow.
-use Rattle.std.specs.Prelude.{◌≡◌, ◌≢◌, ◌↔◌, ◌⊎◌, ◌<◌, ℕ, suc, nat_eq, Bool, true, false, List, [], ◌∷◌, All, Option, Some, None, length, map, slice_index, slice_index_or, if◌then◌else◌}
+use Rattle.std.specs.Prelude.{◌≡◌, ◌≢◌, ◌↔◌, ◌⊎◌, ◌<◌, ℕ, suc, nat_eq, Bool, true, false, List, [], ◌∷◌, ◌++◌, All, Option, Some, None, length, map, slice_index, slice_index_or, if◌then◌else◌}
 use Rattle.graph_order.specs.Graph.{Digraph, HasEdge, IsReached, IsMarked}
+use Rattle.std.specs.List.{flat_map}
+use Rattle.micro_ir.specs.declared.flow.Block.{Block}
 use Rattle.micro_ir.specs.declared.flow.Flow.{Flow}
 use Rattle.flow_stretches.specs.declared.comers.Comers.{Comers}
 use Rattle.flow_stretches.specs.declared.comers.Comers.TheVariants as comers
-use Rattle.flow_stretches.specs.Joined.{graph_of, first_of, last_from, Path}
+use Rattle.flow_stretches.specs.Joined.{graph_of, block_at, first_of, last_from, last_of, Path}
 
 -- who comes to a node, once a block names it
 abbrev pub with_comer : Comers → ℕ → Comers
@@ -60,8 +62,22 @@ marked_from k (false ∷ marks) = marked_from (suc k) marks
 
 -- a path from each marked node, in order
 pub record ArePaths (next : List (Option ℕ)) (firsts : List Bool) (paths : List (List ℕ)) : Type 0 where
-  pub firsts : map first_of paths ≡ marked_from 0 firsts
+  pub heads : map first_of paths ≡ marked_from 0 firsts
   pub each : All (λ nodes. IsPath next (first_of nodes) nodes) paths
+
+-- ---- blocks
+
+-- two blocks one after the other
+abbrev pub then_block : Block → Block → Block
+then_block a b = record { at = a.at; stmts = a.stmts ++ b.stmts; end = b.end }
+
+-- the blocks of nodes one after another
+abbrev pub joined_blocks : List Block → List ℕ → Block
+joined_blocks blocks nodes = record {
+  at = (block_at blocks (first_of nodes)).at;
+  stmts = flat_map (λ n. (block_at blocks n).stmts) nodes;
+  end = (block_at blocks (last_of nodes)).end;
+}
 
 -- the name of a node among names; 0 where it has none
 abbrev pub name_by : List ℕ → ℕ → ℕ

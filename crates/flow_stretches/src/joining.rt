@@ -4,7 +4,7 @@ ghost use Rattle.std.specs.Prelude.{◌≡◌, ◌≢◌, ◌<◌, ℕ, All, All
 ghost use Rattle.std.specs.List.{concat};
 ghost use Rattle.micro_ir.specs.Laws.{moved_case, moved_end};
 ghost use Rattle.flow_stretches.specs.Joined.{block_at, empty_block, join_of};
-ghost use Rattle.flow_stretches.specs.Known.{name_by};
+ghost use Rattle.flow_stretches.specs.Known.{joined_blocks, name_by, then_block};
 
 use crate::ends::straight;
 use graph_order::NodeId;
@@ -77,6 +77,39 @@ fn take_block(alloc: Global, blocks: &mut [Block], n: usize) -> Block
     mem::replace(&mut blocks[n], empty)
 }
 
+/// Two blocks one after the other.
+fn then_block(a: Block, b: Block) -> Result<Block, AllocError>
+    ensures { IfOk result (λ c. c ≡ then_block a b) }
+{
+    let Block {
+        at,
+        mut stmts,
+        end: _end,
+    } = a;
+    stmts.append(b.stmts)?;
+    Ok(Block {
+        at,
+        stmts,
+        end: b.end,
+    })
+}
+
+/// The blocks of some nodes one after another, which are taken.
+fn joined_blocks(alloc: Global, blocks: &mut [Block], nodes: &[usize]) -> Result<Block, AllocError>
+    requires some { 0 < length nodes.now }
+    requires inside { All (λ n. n < length blocks.old) nodes.now }
+    requires once { AllPairs (λ a b. a ≢ b) nodes.now }
+    ensures block { IfOk result (λ b. b ≡ joined_blocks blocks.old nodes.now) }
+    ensures left { OnOk result ((n : ℕ) → (Contains nodes.now n → ⊥) → block_at blocks.new n ≡ block_at blocks.old n) }
+{
+    let mut joined = take_block(alloc, blocks, nodes[0]);
+    for i in 1..nodes.len() {
+        let block = take_block(alloc, blocks, nodes[i]);
+        joined = then_block(joined, block)?;
+    }
+    Ok(joined)
+}
+
 /// The block of a stretch.
 fn join(
     alloc: Global,
@@ -90,16 +123,7 @@ fn join(
     ensures block { IfOk result (λ b. b ≡ join_of blocks.old (name_by names.now) nodes.now) }
     ensures left { OnOk result ((n : ℕ) → (Contains nodes.now n → ⊥) → block_at blocks.new n ≡ block_at blocks.old n) }
 {
-    let Block {
-        at,
-        mut stmts,
-        mut end,
-    } = take_block(alloc, blocks, nodes[0]);
-    for n in &nodes[1..] {
-        let block = take_block(alloc, blocks, *n);
-        stmts.append(block.stmts)?;
-        end = block.end;
-    }
+    let Block { at, stmts, end } = joined_blocks(alloc, blocks, nodes)?;
     let end = renamed(alloc, names, straight(end))?;
     Ok(Block { at, stmts, end })
 }

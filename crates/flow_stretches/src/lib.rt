@@ -10,6 +10,7 @@ mod graph;
 mod joining;
 mod laws;
 mod paths;
+mod plan;
 mod stretches;
 
 pub use laws::{joined_is_given, joined_runs};

@@ -1,0 +1,86 @@
+-- Blocks that are taken from among others, one after another.
+use Rattle.std.proofs.Common.{◌≡◌, ◌≢◌, ◌⊎◌, inl, inr, ℕ, zero, suc, ◌+◌, ◌<◌, ◌≤◌, List, [], ◌∷◌, ◌++◌, length, get_or, set, take, drop, map, refl, sym, ap, ◌∙◌, subst, arith, append-nil, append_assoc}
+use Rattle.std.specs.Prelude.{Contains, All, AllPairs, slice_index_or}
+use Rattle.std.specs.List.{flat_map, concat}
+use Rattle.std.proofs.lemmas.Bool.{cases_lt, cases_eq}
+use Rattle.std.proofs.lemmas.List.{get_or-set_same, get_or-set_other, length-set, take_more, get_or-take}
+use Rattle.std.proofs.lemmas.List.Concat.{flat_map-append}
+use Rattle.std.proofs.lemmas.List.Elements.{Contains-append_left, Contains-append_right, Contains-push, Contains-get_or}
+use Rattle.micro_ir.specs.declared.flow.Stmt.{Stmt}
+use Rattle.micro_ir.specs.declared.flow.Block.{Block}
+use Rattle.flow_stretches.specs.Joined.{empty_block, block_at, first_of, last_from, last_of, join_of}
+use Rattle.flow_stretches.specs.Known.{then_block, joined_blocks}
+use Rattle.flow_stretches.proofs.Members.{contains_here, contains_later, contains_cases, none_in}
+
+-- the blocks of some nodes were taken, and joined
+pub record IsTaken (old : List Block) (nodes : List ℕ) (joined : Block) (left : List Block) : Type 0 where
+  pub count : length left ≡ length old
+  pub joined : joined ≡ joined_blocks old nodes
+  pub left : (n : ℕ) → (Contains nodes n → ⊥) → block_at left n ≡ block_at old n
+
+last_pushed : (m : ℕ) (ms : List ℕ) (n : ℕ) → last_from m (ms ++ n ∷ []) ≡ n
+last_pushed m [] n = refl
+last_pushed m (k ∷ ms) n = last_pushed k ms n
+
+one_node : (blocks : List Block) (n : ℕ) → joined_blocks blocks (n ∷ []) ≡ block_at blocks n
+one_node blocks n = ap (λ ss. record { at = (block_at blocks n).at; stmts = ss; end = (block_at blocks n).end }) (append-nil (block_at blocks n).stmts)
+
+-- one more block is the one after
+joined_pushed : (blocks : List Block) (m : ℕ) (ms : List ℕ) (n : ℕ) → joined_blocks blocks (m ∷ ms ++ n ∷ []) ≡ then_block (joined_blocks blocks (m ∷ ms)) (block_at blocks n)
+joined_pushed blocks m ms n =
+    let stmts_at : ℕ → List Stmt = λ k. (block_at blocks k).stmts in
+    let stmts : flat_map stmts_at (m ∷ ms ++ n ∷ []) ≡ flat_map stmts_at (m ∷ ms) ++ stmts_at n =
+    flat_map-append stmts_at (m ∷ ms) (n ∷ []) ∙ ap (λ ss. flat_map stmts_at (m ∷ ms) ++ ss) (append-nil (stmts_at n)) in
+    ap (λ ss. record { at = (block_at blocks m).at; stmts = ss; end = (block_at blocks (last_from m (ms ++ n ∷ []))).end }) stmts
+    ∙ ap (λ k. record { at = (block_at blocks m).at; stmts = flat_map stmts_at (m ∷ ms) ++ stmts_at n; end = (block_at blocks k).end }) (last_pushed m ms n)
+
+pushed_nodes : (blocks : List Block) (ns : List ℕ) (n : ℕ) → 0 < length ns → joined_blocks blocks (ns ++ n ∷ []) ≡ then_block (joined_blocks blocks ns) (block_at blocks n)
+pushed_nodes blocks [] n h = absurd (let z : ⊥ = omega (arith, h) in z)
+pushed_nodes blocks (m ∷ ms) n h = joined_pushed blocks m ms n
+
+-- the first one
+pub taken_first : (old : List Block) (n : ℕ) (nodes : List ℕ) → take 1 nodes ≡ n ∷ [] → IsTaken old (take 1 nodes) (block_at old n) (set old n empty_block)
+taken_first old n nodes e = subst (λ ns. IsTaken old ns (block_at old n) (set old n empty_block)) (sym e) (record {
+  count = length-set old n empty_block;
+  joined = sym (one_node old n);
+  left = λ m none. get_or-set_other old n m empty_block empty_block (λ s. none (subst (Contains (n ∷ [])) (sym s) (contains_here n [])));
+})
+
+-- a node that stands later isn't among the first ones
+later_apart : (nodes : List ℕ) (i : ℕ) → AllPairs (λ a b. a ≢ b) nodes → i < length nodes → Contains (take i nodes) (get_or nodes i 0) → ⊥
+later_apart nodes i once h c = ?
+
+pub taken_next : (old : List Block) (nodes : List ℕ) (i n : ℕ) (joined : Block) (left : List Block) → AllPairs (λ a b. a ≢ b) nodes → 0 < i → i < length nodes → get_or nodes i 0 ≡ n
+    → IsTaken old (take i nodes) joined left → IsTaken old (take (i + 1) nodes) (then_block joined (block_at left n)) (set left n empty_block)
+taken_next old nodes i n joined left once some h e t =
+    let more : take (i + 1) nodes ≡ take i nodes ++ n ∷ [] = take_more nodes i 0 h ∙ ap (λ m. take i nodes ++ m ∷ []) e in
+    let full : 0 < length (take i nodes) = ? in
+    let same : block_at left n ≡ block_at old n = t.left n (λ c. later_apart nodes i once h (subst (Contains (take i nodes)) (sym e) c)) in
+    subst (λ ns. IsTaken old ns (then_block joined (block_at left n)) (set left n empty_block)) (sym more) (record {
+      count = length-set left n empty_block ∙ t.count;
+      joined = ap (λ b. then_block b (block_at left n)) t.joined ∙ ap (λ b. then_block (joined_blocks old (take i nodes)) b) same ∙ sym (pushed_nodes old (take i nodes) n full);
+      left = λ m none.
+          get_or-set_other left n m empty_block empty_block (λ s. none (subst (Contains (take i nodes ++ n ∷ [])) (sym s) (Contains-push (take i nodes) n)))
+          ∙ t.left m (λ c. none (Contains-append_left (take i nodes) (n ∷ []) m c));
+    })
+
+-- ---- of all stretches
+
+same_stmts : (bs cs : List Block) (ns : List ℕ) → ((n : ℕ) → Contains ns n → block_at bs n ≡ block_at cs n) → flat_map (λ n. (block_at bs n).stmts) ns ≡ flat_map (λ n. (block_at cs n).stmts) ns
+same_stmts bs cs [] h = refl
+same_stmts bs cs (n ∷ ns) h =
+    ap (λ (b : Block). b.stmts ++ flat_map (λ m. (block_at bs m).stmts) ns) (h n (contains_here n ns))
+    ∙ ap (λ ss. (block_at cs n).stmts ++ ss) (same_stmts bs cs ns (λ m g. h m (contains_later n m ns g)))
+
+last_in : (n : ℕ) (ns : List ℕ) → Contains (n ∷ ns) (last_from n ns)
+last_in n [] = contains_here n []
+last_in n (m ∷ ns) = contains_later n (last_from m ns) (m ∷ ns) (last_in m ns)
+
+-- a joined block is made of the blocks of its nodes alone
+pub same_join : (bs cs : List Block) (name : ℕ → ℕ) (ns : List ℕ) → 0 < length ns → ((n : ℕ) → Contains ns n → block_at bs n ≡ block_at cs n) → join_of bs name ns ≡ join_of cs name ns
+same_join bs cs name [] some h = absurd (let z : ⊥ = omega (arith, some) in z)
+same_join bs cs name (n ∷ ns) some h =
+    let at : (block_at bs n).at ≡ (block_at cs n).at = ap (λ (b : Block). b.at) (h n (contains_here n ns)) in
+    let stmts = same_stmts bs cs (n ∷ ns) h in
+    let end : (block_at bs (last_from n ns)).end ≡ (block_at cs (last_from n ns)).end = ap (λ (b : Block). b.end) (h (last_from n ns) (last_in n ns)) in
+    cc
