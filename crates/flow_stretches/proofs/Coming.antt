@@ -1,11 +1,11 @@
 -- Who comes to nodes, one node after another.
-use Rattle.std.proofs.Common.{◌≡◌, ◌≢◌, ◌⊎◌, inl, inr, ⊎_elim, ℕ, zero, suc, ◌+◌, ◌<◌, ◌≤◌, Bool, true, false, ◌||◌, nat_eq, cond, List, [], ◌∷◌, length, get_or, set, take, replicate, refl, sym, ap, ◌∙◌, subst, arith, rules}
+use Rattle.std.proofs.Common.{◌≡◌, ◌≢◌, ◌⊎◌, inl, inr, ⊎_elim, ℕ, zero, suc, ◌+◌, ◌<◌, ◌≤◌, Bool, true, false, ◌||◌, ◌↔◌, nat_eq, cond, List, [], ◌∷◌, length, get_or, set, take, replicate, refl, sym, ap, ◌∙◌, subst, arith, rules}
 use Rattle.std.specs.Prelude.{Contains, slice_index_or}
 use Rattle.std.specs.List.{list_any}
 use Rattle.std.proofs.lemmas.Bool.{cases_lt, cases_eq}
 use Rattle.std.proofs.lemmas.List.{get_or-set_same, get_or-set_other, get_or_past}
 use Rattle.std.proofs.lemmas.List.Folds.{list_any_more}
-use Rattle.graph_order.specs.Graph.{Digraph, HasEdge, IsReached}
+use Rattle.graph_order.specs.Graph.{Digraph, HasEdge, IsReached, IsMarked}
 use Rattle.flow_stretches.specs.declared.comers.Comers.{Comers}
 use Rattle.flow_stretches.specs.declared.comers.Comers.TheVariants as comers
 use Rattle.flow_stretches.specs.Known.{with_comer, comers_at, AreComers, ComesTo}
@@ -194,3 +194,6 @@ up_to_all g k list full up n =
       | inr m ↦ absurd (no_edge g a n m q.edge)
     ])
     (up.each n)
+
+pub unreached : (g : Digraph) (marks : List Bool) (k : ℕ) → ((n : ℕ) → (IsMarked marks n ↔ IsReached g n)) → slice_index_or marks k false ≡ false → IsReached g k → ⊥
+unreached g marks k exact e r = let z : true ≡ false = sym ((exact k).1 r) ∙ e in let y : ⊥ = cc in y

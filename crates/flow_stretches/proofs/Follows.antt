@@ -3,6 +3,7 @@ use Rattle.std.proofs.Common.{◌≡◌, ◌≢◌, ◌⊎◌, inl, inr, ⊎_eli
 use Rattle.std.specs.Prelude.{slice_index_or, Contains}
 use Rattle.std.proofs.lemmas.Bool.{cases_lt, cases_eq}
 use Rattle.std.proofs.lemmas.List.{get_or-set_same, get_or-set_other, get_or_past, length-set}
+use Rattle.std.proofs.lemmas.Option.{slice_get-get_or, get_or_from_slice_get}
 use Rattle.graph_order.specs.Graph.{HasEdge, IsReached, IsMarked}
 use Rattle.micro_ir.specs.declared.flow.Block.{Block}
 use Rattle.micro_ir.specs.declared.flow.Flow.{Flow}
@@ -17,7 +18,7 @@ use Rattle.flow_stretches.proofs.Reached.{follows_edge}
 abbrev pub TellsNext : Flow → ℕ → Option ℕ → Type 0
 TellsNext f k o = (m : ℕ) → ((o ≡ Some m) ↔ IsFollowed f k m)
 
-none-some : (m : ℕ) → None {A = ℕ} ≡ Some m → ⊥
+none-some : (m : ℕ) → ◌≡◌ {A = Option ℕ} None (Some m) → ⊥
 none-some m e = cc
 
 not_both : (marks : List Bool) (n : ℕ) → slice_index_or marks n false ≡ false → IsMarked marks n → ⊥
@@ -58,6 +59,9 @@ next_shared f reached list k t known only many m = (
       let s : t ≡ m = let o : Some t ≡ Some m = sym only ∙ h.only in cc in
       absurd (many (alone_is_one f k t (comers_at list t) (subst (IsFollowed f k) (sym s) h) (known.comes t))),
 )
+
+pub block_is : (blocks : List Block) (k : ℕ) (b : Block) → k < length blocks → get_or blocks k b ≡ b → block_at blocks k ≡ b
+block_is blocks k b h e = get_or_from_slice_get blocks k b empty_block (slice_get-get_or blocks k b h ∙ ap (λ c. Some c) e)
 
 -- ---- all blocks
 

@@ -1,11 +1,13 @@
 -- The places of marks, and lists without a number twice.
-use Rattle.std.proofs.Common.{◌≡◌, ◌≢◌, ◌⊎◌, inl, inr, ⊎_elim, ℕ, zero, suc, ◌+◌, ◌<◌, ◌≤◌, Bool, true, false, List, [], ◌∷◌, ◌++◌, length, get_or, map, take, Option, Some, None, refl, sym, ap, ◌∙◌, subst, arith, length-append}
+use Rattle.std.proofs.Common.{◌≡◌, ◌≢◌, ◌⊎◌, inl, inr, ⊎_elim, ℕ, zero, suc, ◌+◌, ◌<◌, ◌≤◌, Bool, true, false, cond, List, [], ◌∷◌, ◌++◌, length, get_or, map, take, Option, Some, None, refl, sym, ap, ◌∙◌, subst, arith, length-append}
 use Rattle.std.specs.Prelude.{slice_get, slice_index, slice_index_or, Contains, All, AllPairs}
 use Rattle.std.specs.List.{concat}
 use Rattle.std.specs.List.Sorted.{IsStrictlyIncreasing}
 use Rattle.std.proofs.lemmas.List.Elements.{Contains-get_or, Contains-append_left, Contains-append_right, Contains-append_cases}
 use Rattle.graph_order.specs.Graph.{IsMarked}
-use Rattle.flow_stretches.specs.Known.{marked_from}
+use Rattle.flow_stretches.specs.Known.{marked_from, name_by}
+use Rattle.std.proofs.lemmas.Bool.{cases_lt}
+use Rattle.std.proofs.lemmas.List.{take_more}
 use Rattle.flow_stretches.proofs.Members.{contains_here, contains_later, contains_cases, none_in}
 
 -- ---- no number twice
@@ -106,12 +108,13 @@ marked_append (false ∷ marks) k b =
     let e : suc k + length marks ≡ k + suc (length marks) = omega arith in
     marked_append marks (suc k) b ∙ ap (λ i. marked_from (suc k) marks ++ marked_from i (b ∷ [])) e
 
+full_front : (marks : List Bool) (i : ℕ) → i ≤ length marks → length (take i marks) ≡ i
+full_front marks zero h = refl
+full_front [] (suc i) h = absurd (let z : ⊥ = omega (arith, h) in z)
+full_front (m ∷ marks) (suc i) h = ap suc (full_front marks i (omega (arith, h)))
+
 take_next : (marks : List Bool) (i : ℕ) (b : Bool) → i < length marks → slice_index_or marks i false ≡ b → (take (i + 1) marks ≡ take i marks ++ b ∷ []) × (length (take i marks) ≡ i)
-take_next [] i b h e = absurd (let z : ⊥ = omega (arith, h) in z)
-take_next (m ∷ marks) zero b h e = (ap (λ c. c ∷ []) e, refl)
-take_next (m ∷ marks) (suc i) b h e =
-    let r = take_next marks i b (omega (arith, h)) e in
-    (ap (λ cs. m ∷ cs) r.0, ap suc r.1)
+take_next marks i b h e = (take_more marks i false h ∙ ap (λ c. take i marks ++ c ∷ []) e, full_front marks i (omega (arith, h)))
 
 -- one more place, that of a mark or not
 pub marked_next : (marks : List Bool) (i : ℕ) (b : Bool) → i < length marks → slice_index_or marks i false ≡ b → marked_from 0 (take (i + 1) marks) ≡ marked_from 0 (take i marks) ++ marked_from i (b ∷ [])
@@ -124,3 +127,68 @@ pub few_marked : (marks : List Bool) (k : ℕ) → length (marked_from k marks) 
 few_marked [] k = omega arith
 few_marked (true ∷ marks) k = omega (arith, few_marked marks (suc k))
 few_marked (false ∷ marks) k = omega (arith, few_marked marks (suc k))
+
+-- ---- parts of a list without a number twice
+
+pub once_left : (xs ys : List ℕ) → AllPairs (λ a b. a ≢ b) (xs ++ ys) → AllPairs (λ a b. a ≢ b) xs
+once_left [] ys p = once_none
+once_left (x ∷ xs) ys p = once_more x xs (λ y c. once_head x (xs ++ ys) p y (Contains-append_left xs ys y c)) (once_left xs ys (once_tail x (xs ++ ys) p))
+
+pub once_right : (xs ys : List ℕ) → AllPairs (λ a b. a ≢ b) (xs ++ ys) → AllPairs (λ a b. a ≢ b) ys
+once_right [] ys p = p
+once_right (x ∷ xs) ys p = once_right xs ys (once_tail x (xs ++ ys) p)
+
+pub once_apart : (xs ys : List ℕ) (a : ℕ) → AllPairs (λ a b. a ≢ b) (xs ++ ys) → Contains xs a → Contains ys a → ⊥
+once_apart [] ys a p c g = none_in a c
+once_apart (x ∷ xs) ys a p c g = elim (contains_cases x a xs c) [
+  | inl e ↦ once_head x (xs ++ ys) p a (Contains-append_right xs ys a g) e
+  | inr h ↦ once_apart xs ys a (once_tail x (xs ++ ys) p) h g
+]
+
+-- ---- names
+
+short_front : {A : Type 0} (i : ℕ) (xs : List A) → length (take i xs) ≤ i
+short_front zero xs = omega arith
+short_front (suc i) [] = omega arith
+short_front (suc i) (x ∷ xs) = omega (arith, short_front i xs)
+
+pub few_before : (marks : List Bool) (i : ℕ) → length (marked_from 0 (take i marks)) ≤ i
+few_before marks i = omega (arith, few_marked (take i marks) 0, short_front i marks)
+
+-- the names of the first nodes, each how many first nodes come before it
+pub record NamesUpTo (firsts : List Bool) (i : ℕ) (names : List ℕ) (count : ℕ) : Type 0 where
+  pub size : length names ≡ i
+  pub counted : count ≡ length (marked_from 0 (take i firsts))
+  pub each : (n : ℕ) → n < i → name_by names n ≡ length (marked_from 0 (take n firsts))
+
+name_left : (xs ys : List ℕ) (i : ℕ) → i < length xs → name_by (xs ++ ys) i ≡ name_by xs i
+name_left [] ys i h = absurd (let z : ⊥ = omega (arith, h) in z)
+name_left (x ∷ xs) ys zero h = refl
+name_left (x ∷ xs) ys (suc i) h = name_left xs ys i (omega (arith, h))
+
+name_last : (xs : List ℕ) (x : ℕ) → name_by (xs ++ x ∷ []) (length xs) ≡ x
+name_last [] x = refl
+name_last (y ∷ xs) x = name_last xs x
+
+count_more : (i : ℕ) (b : Bool) (count more : ℕ) → more ≡ cond b (count + 1) count → more ≡ count + length (marked_from i (b ∷ []))
+count_more i true count more e = omega (arith, e)
+count_more i false count more e = omega (arith, e)
+
+pub names_none : (firsts : List Bool) (names : List ℕ) → names ≡ [] → NamesUpTo firsts 0 names 0
+names_none firsts names e = record { size = ap length e; counted = refl; each = λ n h. absurd (let z : ⊥ = omega (arith, h) in z) }
+
+pub names_more : (firsts : List Bool) (i : ℕ) (b : Bool) (names new : List ℕ) (count more : ℕ) → i < length firsts → slice_index_or firsts i false ≡ b → new ≡ names ++ count ∷ [] → more ≡ cond b (count + 1) count
+    → NamesUpTo firsts i names count → NamesUpTo firsts (i + 1) new more
+names_more firsts i b names new count more h e p s up =
+    let marked = ap length (marked_next firsts i b h e) ∙ length-append (marked_from 0 (take i firsts)) (marked_from i (b ∷ [])) in
+    record {
+      size = omega (arith, ap length p, length-append names (count ∷ []), up.size);
+      counted = omega (arith, marked, count_more i b count more s, up.counted);
+      each = λ n l. elim (cases_lt n i) [
+            | inl m ↦ ap (λ ns. name_by ns n) p ∙ name_left names (count ∷ []) n (omega (arith, m, up.size)) ∙ up.each n m
+            | inr g ↦
+                let t : n ≡ length names = omega (arith, g, l, up.size) in
+                let u : i ≡ n = omega (arith, g, l) in
+                ap (λ ns. name_by ns n) p ∙ ap (λ k. name_by (names ++ count ∷ []) k) t ∙ name_last names count ∙ up.counted ∙ ap (λ k. length (marked_from 0 (take k firsts))) u
+          ];
+    }

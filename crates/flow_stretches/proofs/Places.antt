@@ -1,16 +1,16 @@
 -- Paths of nodes, each with the next one after it.
-use Rattle.std.proofs.Common.{◌≡◌, ◌≢◌, ◌⊎◌, inl, inr, ℕ, zero, suc, ◌+◌, ◌-◌, ◌<◌, ◌≤◌, Bool, true, false, nat_eq, List, [], ◌∷◌, ◌++◌, length, get_or, map, take, Option, Some, None, refl, sym, ap, ◌∙◌, subst, arith, length-append}
+use Rattle.std.proofs.Common.{◌≡◌, ◌≢◌, ◌⊎◌, inl, inr, ℕ, zero, suc, ◌+◌, ◌-◌, ◌<◌, ◌≤◌, Bool, true, false, nat_eq, List, [], ◌∷◌, ◌++◌, length, get_or, map, take, Option, Some, None, refl, sym, ap, ◌∙◌, subst, arith, length-append, append-nil}
 use Rattle.std.specs.Prelude.{slice_get, slice_index_or, Contains, All, AllPairs}
 use Rattle.std.specs.List.{concat, IsDistinct}
-use Rattle.std.specs.List.{is_member}
 use Rattle.std.proofs.lemmas.Bool.{cases_lt, cases_eq}
 use Rattle.std.proofs.lemmas.Bool.Decides.{Decides-eqb}
 use Rattle.std.proofs.lemmas.Cmp.{nat_eq_equiv}
 use Rattle.std.proofs.lemmas.List.{length-map}
-use Rattle.std.proofs.lemmas.List.Elements.{Contains-append_cases}
+use Rattle.std.proofs.lemmas.List.Elements.{All-push}
 use Rattle.std.proofs.lemmas.Map.Made.{length-le_from_is_member, is_member-Decides, IsDistinct-from_AllPairs}
 use Rattle.flow_stretches.specs.Joined.{first_of, last_from, last_of, Path}
-use Rattle.flow_stretches.specs.Known.{NextIn, IsPath, AreNext, ArePaths}
+use Rattle.flow_stretches.specs.Known.{NextIn, IsPath, AreNext, ArePaths, marked_from}
+use Rattle.flow_stretches.proofs.Marking.{marked_next}
 use Rattle.flow_stretches.proofs.Members.{contains_here, contains_later, contains_cases, none_in}
 
 -- ---- a path so far
@@ -138,3 +138,45 @@ last_inside next first last nodes are h p = subst (λ k. k < length next) p.to (
     ends_inside : (n : ℕ) (ms : List ℕ) → n < length next → Path (NextIn next) n ms → last_from n ms < length next
     ends_inside n [] l q = l
     ends_inside n (k ∷ ms) l q = ends_inside k ms (are.inside n k q.0) q.1
+
+-- ---- all paths
+
+pub none_of : (o : Option ℕ) → ((x : ℕ) → o ≡ Some x → ⊥) → o ≡ None
+none_of None h = refl
+none_of (Some x) h = absurd (h x refl)
+
+pub paths_none : (next : List (Option ℕ)) → ArePaths next [] []
+paths_none next = record { heads = refl; each = λ k d h. absurd (let z : ⊥ = omega (arith, h) in z) }
+
+map_pushed : {A B : Type 0} (v : A → B) (xs : List A) (x : A) → map v (xs ++ x ∷ []) ≡ map v xs ++ v x ∷ []
+map_pushed v [] x = refl
+map_pushed v (y ∷ xs) x = ap (λ l. v y ∷ l) (map_pushed v xs x)
+
+pub paths_more : {A : Type 0} (v : A → List ℕ) (next : List (Option ℕ)) (firsts : List Bool) (i : ℕ) (ps : List A) (p : A) → i < length firsts → slice_index_or firsts i false ≡ true → ArePaths next (take i firsts) (map v ps) → IsPath next i (v p)
+    → ArePaths next (take (i + 1) firsts) (map v (ps ++ p ∷ []))
+paths_more v next firsts i ps p h e are path =
+    let head : first_of (v p) ≡ i = ap first_of path.are in
+    let own : IsPath next (first_of (v p)) (v p) = subst (λ k. IsPath next k (v p)) (sym head) path in
+    subst (ArePaths next (take (i + 1) firsts)) (sym (map_pushed v ps p)) (record {
+      heads =
+          map_pushed first_of (map v ps) (v p)
+          ∙ ap (λ l. l ++ first_of (v p) ∷ []) are.heads
+          ∙ ap (λ k. marked_from 0 (take i firsts) ++ k ∷ []) head
+          ∙ sym (marked_next firsts i true h e);
+      each = All-push (λ (nodes : List ℕ). IsPath next (first_of nodes) nodes) (map v ps) (v p) are.each own;
+    })
+
+pub paths_skip : (next : List (Option ℕ)) (firsts : List Bool) (i : ℕ) (paths : List (List ℕ)) → i < length firsts → slice_index_or firsts i false ≡ false → ArePaths next (take i firsts) paths → ArePaths next (take (i + 1) firsts) paths
+paths_skip next firsts i paths h e are = record {
+  heads = are.heads ∙ sym (append-nil (marked_from 0 (take i firsts))) ∙ sym (marked_next firsts i false h e);
+  each = are.each;
+}
+
+take_whole : (xs : List Bool) (i : ℕ) → length xs ≤ i → take i xs ≡ xs
+take_whole [] zero h = refl
+take_whole [] (suc i) h = refl
+take_whole (x ∷ xs) zero h = absurd (let z : ⊥ = omega (arith, h) in z)
+take_whole (x ∷ xs) (suc i) h = ap (λ l. x ∷ l) (take_whole xs i (omega (arith, h)))
+
+pub paths_all : (next : List (Option ℕ)) (firsts : List Bool) (i : ℕ) (paths : List (List ℕ)) → length firsts ≤ i → ArePaths next (take i firsts) paths → ArePaths next firsts paths
+paths_all next firsts i paths h are = subst (λ l. ArePaths next l paths) (take_whole firsts i h) are

@@ -4,12 +4,15 @@ use Rattle.std.specs.Prelude.{slice_get, slice_index_or, Contains, All, AllPairs
 use Rattle.std.specs.List.{concat}
 use Rattle.std.specs.List.Sorted.{IsStrictlyIncreasing}
 use Rattle.std.proofs.lemmas.List.Elements.{All-contains, All-head, All-tail, Contains-get_or}
-use Rattle.graph_order.specs.Graph.{HasEdge, IsReached, Walk, stay, step, IsMarked}
+use Rattle.std.proofs.lemmas.List.{length-map}
+use Rattle.micro_ir.specs.Checked.{nodes_of}
+use Rattle.flow_stretches.specs.declared.comers.Comers.{Comers}
+use Rattle.graph_order.specs.Graph.{Digraph, HasEdge, IsReached, Walk, stay, step, IsMarked}
 use Rattle.micro_ir.specs.declared.flow.Block.{Block}
 use Rattle.micro_ir.specs.declared.flow.Flow.{Flow}
 use Rattle.micro_ir.specs.Rule.{IsGiven}
 use Rattle.flow_stretches.specs.Joined.{graph_of, IsFollowed, IsFirst, first_of, last_from, Path, IsStretch, AreStretches}
-use Rattle.flow_stretches.specs.Known.{NextIn, IsPath, AreNext, ArePaths, marked_from, name_by}
+use Rattle.flow_stretches.specs.Known.{comers_at, AreComers, ComesTo, IsKnown, NextIn, IsPath, AreNext, ArePaths, marked_from, name_by}
 use Rattle.flow_stretches.proofs.Members.{contains_got, contains_here, contains_later, contains_cases, got_of, mapped_at, at_mapped, none_in}
 use Rattle.flow_stretches.proofs.Reached.{reached_inside, entry_first, follows_edge, follows_reached}
 use Rattle.flow_stretches.proofs.Marking.{once_none, once_head, once_tail, once_append, in_concat, of_concat, is_marked, marked_name, marked_once, marked_rising}
@@ -180,3 +183,31 @@ pub inside_all : (f : Flow) (paths : List (List ℕ)) (name : ℕ → ℕ) → I
 inside_all f paths name given are k d h =
     let n = get_or (concat paths) k d in
     reached_inside f n given.checked ((are.reached n).0 (Contains-get_or (concat paths) k d h))
+
+-- ---- what the code finds
+
+pub known_of : (f : Flow) (g : Digraph) (reached : List Bool) (list : List Comers) → g ≡ graph_of f → length reached ≡ length g.succ → ((n : ℕ) → (IsMarked reached n ↔ IsReached g n)) → length list ≡ length g.succ
+    → ((n : ℕ) → AreComers (ComesTo g n) (comers_at list n)) → IsKnown f reached list
+known_of f g reached list e marks exact count comes =
+    let size : length g.succ ≡ length f.blocks = ap (λ (h : Digraph). length h.succ) e ∙ length-map f.blocks (λ (b : Block). nodes_of b.end) in
+    record {
+      marks = marks ∙ size;
+      exact = λ n. subst (λ h. IsMarked reached n ↔ IsReached h n) e (exact n);
+      count = count ∙ size;
+      comes = λ n. subst (λ h. AreComers (ComesTo h n) (comers_at list n)) e (comes n);
+    }
+
+pub next_within : (f : Flow) (reached : List Bool) (list : List Comers) (next : List (Option ℕ)) → IsGiven f → IsKnown f reached list → ((k m : ℕ) → (NextIn next k m ↔ IsFollowed f k m)) → (k m : ℕ) → NextIn next k m → m < length reached
+next_within f reached list next given known exact k m e = omega (arith, known.marks, reached_inside f m given.checked (follows_reached f k m ((exact k m).0 e)))
+
+pub planned_of : (f : Flow) (reached firsts : List Bool) (list : List Comers) (next : List (Option ℕ)) → IsKnown f reached list → length next ≡ length f.blocks → ((k m : ℕ) → (NextIn next k m ↔ IsFollowed f k m))
+    → length firsts ≡ length reached → ((n : ℕ) → IsMarked firsts n → IsMarked reached n) → ((k n : ℕ) → IsMarked firsts n → NextIn next k n → ⊥)
+    → ((n : ℕ) → IsMarked reached n → (IsMarked firsts n ⊎ ((k : ℕ) × NextIn next k n))) → ArePlanned f next firsts
+planned_of f reached firsts list next known size exact count stays first others = record {
+  size = size;
+  exact = exact;
+  marks = count ∙ known.marks;
+  reached = λ n m. (known.exact n).0 (stays n m);
+  first = first;
+  others = λ n r. others n ((known.exact n).1 r);
+}

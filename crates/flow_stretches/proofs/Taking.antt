@@ -10,6 +10,9 @@ use Rattle.micro_ir.specs.declared.flow.Stmt.{Stmt}
 use Rattle.micro_ir.specs.declared.flow.Block.{Block}
 use Rattle.flow_stretches.specs.Joined.{empty_block, block_at, first_of, last_from, last_of, join_of}
 use Rattle.flow_stretches.specs.Known.{then_block, joined_blocks}
+use Rattle.std.proofs.Common.{drop-cons}
+use Rattle.std.proofs.lemmas.List.Elements.{All-head, All-tail}
+use Rattle.flow_stretches.proofs.Marking.{once_left, once_right, once_apart}
 use Rattle.flow_stretches.proofs.Members.{contains_here, contains_later, contains_cases, none_in}
 
 -- the blocks of some nodes were taken, and joined
@@ -48,13 +51,35 @@ taken_first old n nodes e = subst (λ ns. IsTaken old ns (block_at old n) (set o
 
 -- a node that stands later isn't among the first ones
 later_apart : (nodes : List ℕ) (i : ℕ) → AllPairs (λ a b. a ≢ b) nodes → i < length nodes → Contains (take i nodes) (get_or nodes i 0) → ⊥
-later_apart nodes i once h c = ?
+later_apart nodes i once h c =
+    let size : length (take i nodes) ≡ i = length_front nodes i (omega (arith, h)) in
+    let l : c.0 < i = omega (arith, c.1, size) in
+    once c.0 i 0 l h (sym (front_same nodes i c.0 0 l (omega (arith, h))) ∙ places (take i nodes) c.0 (get_or nodes i 0) c.1 c.2)
+  where
+    length_front : (xs : List ℕ) (k : ℕ) → k ≤ length xs → length (take k xs) ≡ k
+    length_front xs zero g = refl
+    length_front [] (suc k) g = absurd (let z : ⊥ = omega (arith, g) in z)
+    length_front (x ∷ xs) (suc k) g = ap suc (length_front xs k (omega (arith, g)))
+    front_same : (xs : List ℕ) (k j d : ℕ) → j < k → k ≤ length xs → get_or (take k xs) j d ≡ get_or xs j d
+    front_same xs zero j d g e = absurd (let z : ⊥ = omega (arith, g) in z)
+    front_same [] (suc k) j d g e = absurd (let z : ⊥ = omega (arith, e) in z)
+    front_same (x ∷ xs) (suc k) zero d g e = refl
+    front_same (x ∷ xs) (suc k) (suc j) d g e = front_same xs k j d (omega (arith, g)) (omega (arith, e))
+    places : (xs : List ℕ) (k x : ℕ) → k < length xs → slice_index_or xs k x ≡ x → get_or xs k 0 ≡ x
+    places [] k x g e = absurd (let z : ⊥ = omega (arith, g) in z)
+    places (y ∷ xs) zero x g e = e
+    places (y ∷ xs) (suc k) x g e = places xs k x (omega (arith, g)) e
+
+some_front : (xs : List ℕ) (i : ℕ) → 0 < i → i < length xs → 0 < length (take i xs)
+some_front [] i g h = absurd (let z : ⊥ = omega (arith, h) in z)
+some_front (x ∷ xs) zero g h = absurd (let z : ⊥ = omega (arith, g) in z)
+some_front (x ∷ xs) (suc i) g h = omega arith
 
 pub taken_next : (old : List Block) (nodes : List ℕ) (i n : ℕ) (joined : Block) (left : List Block) → AllPairs (λ a b. a ≢ b) nodes → 0 < i → i < length nodes → get_or nodes i 0 ≡ n
     → IsTaken old (take i nodes) joined left → IsTaken old (take (i + 1) nodes) (then_block joined (block_at left n)) (set left n empty_block)
 taken_next old nodes i n joined left once some h e t =
     let more : take (i + 1) nodes ≡ take i nodes ++ n ∷ [] = take_more nodes i 0 h ∙ ap (λ m. take i nodes ++ m ∷ []) e in
-    let full : 0 < length (take i nodes) = ? in
+    let full : 0 < length (take i nodes) = some_front nodes i some h in
     let same : block_at left n ≡ block_at old n = t.left n (λ c. later_apart nodes i once h (subst (Contains (take i nodes)) (sym e) c)) in
     subst (λ ns. IsTaken old ns (then_block joined (block_at left n)) (set left n empty_block)) (sym more) (record {
       count = length-set left n empty_block ∙ t.count;
@@ -84,3 +109,40 @@ same_join bs cs name (n ∷ ns) some h =
     let stmts = same_stmts bs cs (n ∷ ns) h in
     let end : (block_at bs (last_from n ns)).end ≡ (block_at cs (last_from n ns)).end = ap (λ (b : Block). b.end) (h (last_from n ns) (last_in n ns)) in
     cc
+
+-- the blocks of some stretches were joined, and those of others are left
+pub record JoinedUpTo (blocks : List Block) (name : ℕ → ℕ) (done rest : List (List ℕ)) (joined left : List Block) : Type 0 where
+  pub count : length left ≡ length blocks
+  pub are : joined ≡ map (join_of blocks name) done
+  pub same : (n : ℕ) → Contains (concat rest) n → block_at left n ≡ block_at blocks n
+  pub once : AllPairs (λ a b. a ≢ b) (concat rest)
+  pub inside : (n : ℕ) → Contains (concat rest) n → n < length blocks
+  pub some : All (λ nodes. 0 < length nodes) rest
+
+map_pushed : (f : List ℕ → Block) (xs : List (List ℕ)) (x : List ℕ) → map f (xs ++ x ∷ []) ≡ map f xs ++ f x ∷ []
+map_pushed f [] x = refl
+map_pushed f (y ∷ xs) x = ap (λ bs. f y ∷ bs) (map_pushed f xs x)
+
+module _ (blocks : List Block) (name : ℕ → ℕ) (done rest : List (List ℕ)) (s : List ℕ) (joined left : List Block) (up : JoinedUpTo blocks name done (s ∷ rest) joined left) where
+  pub next_some : 0 < length s
+  next_some = All-head (λ (nodes : List ℕ). 0 < length nodes) s rest up.some
+
+  pub next_inside : All (λ n. n < length left) s
+  next_inside k d h = omega (arith, up.inside (get_or s k d) (Contains-append_left s (concat rest) (get_or s k d) (Contains-get_or s k d h)), up.count)
+
+  pub next_once : AllPairs (λ a b. a ≢ b) s
+  next_once = once_left s (concat rest) up.once
+
+  pub joined_more : (b : Block) (after : List Block) → length after ≡ length left → b ≡ join_of left name s → ((n : ℕ) → (Contains s n → ⊥) → block_at after n ≡ block_at left n)
+      → JoinedUpTo blocks name (done ++ s ∷ []) rest (joined ++ b ∷ []) after
+  joined_more b after size is keeps = record {
+    count = size ∙ up.count;
+    are =
+        ap (λ bs. bs ++ b ∷ []) up.are
+        ∙ ap (λ c. map (join_of blocks name) done ++ c ∷ []) (is ∙ same_join left blocks name s next_some (λ n c. up.same n (Contains-append_left s (concat rest) n c)))
+        ∙ sym (map_pushed (join_of blocks name) done s);
+    same = λ n c. keeps n (λ h. once_apart s (concat rest) n up.once h c) ∙ up.same n (Contains-append_right s (concat rest) n c);
+    once = once_right s (concat rest) up.once;
+    inside = λ n c. up.inside n (Contains-append_right s (concat rest) n c);
+    some = All-tail (λ (nodes : List ℕ). 0 < length nodes) s rest up.some;
+  }

@@ -3,4 +3,4 @@ use Rattle.flow_stretches.proofs.Taking.{IsTaken}
 use Rattle.flow_stretches.proofs.joining.joined_blocks.Given as goal
 
 abbrev pub invariant-loop-i : goal.invariant-loop-i
-invariant-loop-i l = IsTaken l.fn.blocks.now (take l.i l.nodes) l.joined l.blocks
+invariant-loop-i l = IsTaken l.fn.blocks (take l.i l.nodes) l.joined l.blocks

@@ -3,8 +3,8 @@ use Rattle.flow_stretches.proofs.Places.{PathTo}
 use Rattle.flow_stretches.proofs.paths.path_from.Given as goal
 
 -- the last node is inside, which an index wants
-abbrev pub invariant-loop-m : goal.invariant-loop-m
-invariant-loop-m l = (l.last < length l.next) × PathTo l.next l.first l.last l.nodes.items
+abbrev pub invariant-loop-last : goal.invariant-loop-last
+invariant-loop-last l = (l.last < length l.next) × PathTo l.next l.first l.last l.nodes.items
 
-abbrev pub decreases-loop-m : goal.decreases-loop-m
-decreases-loop-m l = length l.next - length l.nodes.items
+abbrev pub decreases-loop-last : goal.decreases-loop-last
+decreases-loop-last l = length l.next - length l.nodes.items

@@ -1,0 +1,1 @@
+use Rattle.flow_stretches.proofs.plan.plan_of.Goals as goal
