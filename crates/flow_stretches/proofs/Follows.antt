@@ -60,8 +60,8 @@ next_shared f reached list k t known only many m = (
       absurd (many (alone_is_one f k t (comers_at list t) (subst (IsFollowed f k) (sym s) h) (known.comes t))),
 )
 
-pub block_is : (blocks : List Block) (k : ℕ) (b : Block) → k < length blocks → get_or blocks k b ≡ b → block_at blocks k ≡ b
-block_is blocks k b h e = get_or_from_slice_get blocks k b empty_block (slice_get-get_or blocks k b h ∙ ap (λ c. Some c) e)
+pub block_here : (blocks : List Block) (k : ℕ) (d : Block) → k < length blocks → block_at blocks k ≡ get_or blocks k d
+block_here blocks k d h = get_or_from_slice_get blocks k (get_or blocks k d) empty_block (slice_get-get_or blocks k d h)
 
 -- ---- all blocks
 

@@ -146,3 +146,13 @@ module _ (blocks : List Block) (name : ℕ → ℕ) (done rest : List (List ℕ)
     inside = λ n c. up.inside n (Contains-append_right s (concat rest) n c);
     some = All-tail (λ (nodes : List ℕ). 0 < length nodes) s rest up.some;
   }
+
+pub first_taken : (nodes : List ℕ) → 0 < length nodes → take 1 nodes ≡ get_or nodes 0 0 ∷ []
+first_taken [] h = absurd (let z : ⊥ = omega (arith, h) in z)
+first_taken (n ∷ nodes) h = refl
+
+pub taken_whole : (nodes : List ℕ) (i : ℕ) → length nodes ≤ i → take i nodes ≡ nodes
+taken_whole [] zero h = refl
+taken_whole [] (suc i) h = refl
+taken_whole (n ∷ nodes) zero h = absurd (let z : ⊥ = omega (arith, h) in z)
+taken_whole (n ∷ nodes) (suc i) h = ap (λ l. n ∷ l) (taken_whole nodes i (omega (arith, h)))

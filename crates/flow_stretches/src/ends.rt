@@ -1,6 +1,7 @@
 //! Ends of blocks that lead to one node, whatever is tested.
 
-ghost use Rattle.std.specs.Prelude.{◌≡◌};
+ghost use Rattle.std.specs.Prelude.{◌≡◌, nat_eq};
+ghost use Rattle.std.specs.List.{list_all};
 ghost use Rattle.flow_stretches.specs.Ends.{only_target, shared_target, straight};
 
 use graph_order::NodeId;
@@ -22,11 +23,18 @@ fn shared_target(cases: &[Case]) -> Option<NodeId>
     ensures { result ≡ shared_target cases.now }
 {
     let (first, others) = cases.split_first()?;
-    if others.iter().all(|c| c.to.0 == first.to.0) {
+    if all_lead_to(others, first.to) {
         Some(first.to)
     } else {
         None
     }
+}
+
+/// All of some cases lead to a node.
+fn all_lead_to(cases: &[Case], n: NodeId) -> bool
+    ensures { result ≡ list_all (λ d. nat_eq d.to n) cases.now }
+{
+    cases.iter().all(|c| c.to.0 == n.0)
 }
 
 /// The end, which goes where it leads, whatever is tested.

@@ -19,7 +19,13 @@ loop-k-init c =
 pub loop-k-preserved : goal.loop-k-preserved
 loop-k-preserved c =
     elim c.if-reached-k.branch [
-      | then-reached-k w ↦ ?
+      | then-reached-k w ↦
+          let size : length w.note.new.comers ≡ c.loop-k.comers.len = omega (arith, w.note.auto.comers, w.deref_mut.ensures.len) in
+          let same : length w.note.new.comers ≡ length c.loop-k.comers.items = omega (arith, w.note.auto.comers, ap length w.deref_mut.ensures.value) in
+          rw (w.comers-is, refill c.loop-k.comers.len w.note.new.comers c.loop-k.comers.items size)
+          (up_to_more c.args.g.now c.loop-k.k c.loop-k.comers.items w.note.new.comers same ((c.requires.exact c.loop-k.k).0 w.if-reached-k.true) c.loop-k.invariant
+          (subst (λ ns. AreNoted c.loop-k.k ns c.loop-k.comers.items w.note.new.comers) w.succ.ensures.value
+          (subst (λ cs. AreNoted c.loop-k.k w.succ.result.now cs w.note.new.comers) w.deref_mut.ensures.value (record { each = w.note.ensures }))))
       | else-reached-k w ↦ rw w.comers-is (up_to_skip c.args.g.now c.loop-k.k c.loop-k.comers.items (unreached c.args.g.now c.args.reached.now c.loop-k.k c.requires.exact w.if-reached-k.false) c.loop-k.invariant)
     ]
 

@@ -1,6 +1,5 @@
 use Rattle.std.proofs.Common.{◌≡◌, ap, refl, ◌∙◌, sym, subst, arith, ◌+◌, Some, None}
 use Rattle.flow_stretches.proofs.Follows.{FirstsUpTo, firsts_none, firsts_more, firsts_skip, firsts_all}
-use Rattle.flow_stretches.proofs.Places.{none_of}
 use Rattle.flow_stretches.proofs.following.firsts_in.Goals as goal
 use Rattle.flow_stretches.proofs.following.firsts_in.Goals.{in-Some, in_default}
 
@@ -10,8 +9,10 @@ loop-after-init c = firsts_none c.args.next.now c.args.reached.items
 pub loop-after-preserved : goal.loop-after-preserved
 loop-after-preserved c =
     elim c.match-after.branch [
-      | in-Some w ↦ ?
-      | in_default w ↦ ?
+      | in-Some w ↦
+          rw w.firsts-is
+          (firsts_more c.args.next.now c.loop-after.after-index w.in-Some.m c.args.reached.items c.loop-after.firsts.items w.in-Some.is (omega (arith, c.requires c.loop-after.after-index w.in-Some.m w.in-Some.is, c.loop-after.invariant.count)) c.loop-after.invariant)
+      | in_default w ↦ rw w.firsts-is (firsts_skip c.args.next.now c.loop-after.after-index c.args.reached.items c.loop-after.firsts.items w.in_default.is c.loop-after.invariant)
     ]
 
 pub returns-clause-count : goal.returns-clause-count
