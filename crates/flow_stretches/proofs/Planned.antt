@@ -211,3 +211,24 @@ planned_of f reached firsts list next known size exact count stays first others 
   first = first;
   others = λ n r. others n ((known.exact n).1 r);
 }
+
+-- the same, where the code names what is found in other words
+pub planned_by : (f : Flow) (reached firsts : List Bool) (list : List Comers) (ns next : List (Option ℕ)) → ns ≡ next → IsKnown f reached list → length next ≡ length f.blocks → ((k m : ℕ) → (NextIn next k m ↔ IsFollowed f k m))
+    → length firsts ≡ length reached → ((n : ℕ) → IsMarked firsts n → IsMarked reached n) → ((k n : ℕ) → IsMarked firsts n → NextIn ns k n → ⊥)
+    → ((n : ℕ) → IsMarked reached n → (IsMarked firsts n ⊎ ((k : ℕ) × NextIn ns k n))) → ArePlanned f next firsts
+planned_by f reached firsts list ns next e known size exact count stays first others =
+    planned_of f reached firsts list next known size exact count stays
+    (subst (λ os. (k n : ℕ) → IsMarked firsts n → NextIn os k n → ⊥) e first)
+    (subst (λ os. (n : ℕ) → IsMarked reached n → (IsMarked firsts n ⊎ ((k : ℕ) × NextIn os k n))) e others)
+
+pub known_by : (f : Flow) (rs reached : List Bool) (cs list : List Comers) → rs ≡ reached → cs ≡ list → IsKnown f reached list → IsKnown f rs cs
+known_by f rs reached cs list e g known = subst (λ c. IsKnown f rs c) (sym g) (subst (λ r. IsKnown f r list) (sym e) known)
+
+pub paths_by : (ns next : List (Option ℕ)) (fs firsts : List Bool) (paths : List (List ℕ)) → ns ≡ next → fs ≡ firsts → ArePaths ns fs paths → ArePaths next firsts paths
+paths_by ns next fs firsts paths e g are = subst (λ f. ArePaths next f paths) g (subst (λ n. ArePaths n fs paths) e are)
+
+pub begin_by : (os ns : List (Option ℕ)) (fs firsts : List Bool) → os ≡ ns → fs ≡ firsts → ((k n : ℕ) → IsMarked firsts n → NextIn ns k n → ⊥) → (k n : ℕ) → IsMarked fs n → NextIn os k n → ⊥
+begin_by os ns fs firsts e g h = subst (λ o. (k n : ℕ) → IsMarked fs n → NextIn o k n → ⊥) (sym e) (subst (λ f. (k n : ℕ) → IsMarked f n → NextIn ns k n → ⊥) (sym g) h)
+
+pub names_by : (fs firsts : List Bool) (names : List ℕ) → fs ≡ firsts → ((n : ℕ) → n < length fs → name_by names n ≡ length (marked_from 0 (take n fs))) → (n : ℕ) → n < length firsts → name_by names n ≡ length (marked_from 0 (take n firsts))
+names_by fs firsts names e h = subst (λ f. (n : ℕ) → n < length f → name_by names n ≡ length (marked_from 0 (take n f))) e h

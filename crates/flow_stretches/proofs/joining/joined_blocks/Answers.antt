@@ -1,40 +1,26 @@
+use Rattle.std.proofs.Common.{◌≡◌, ◌<◌, ◌+◌, ap, sym, ◌∙◌, subst, arith, get_or, take, refl}
+use Rattle.std.specs.Prelude.{Contains}
+use Rattle.flow_stretches.specs.Known.{joined_blocks}
+use Rattle.flow_stretches.proofs.Taking.{IsTaken, taken_first, taken_next, first_taken, taken_whole}
 use Rattle.flow_stretches.proofs.joining.joined_blocks.Goals as goal
 
 pub bounds-nodes-0 : goal.bounds-nodes-0
-bounds-nodes-0 c = ?
+bounds-nodes-0 c = c.requires.some
 
 pub take_block-joined-requires : goal.take_block-joined-requires
-take_block-joined-requires c = ?
+take_block-joined-requires c = c.requires.inside 0 0 c.requires.some
 
 pub loop-i-init : goal.loop-i-init
 loop-i-init c = ?
 
-pub offset_bounds-nodes-i : goal.offset_bounds-nodes-i
-offset_bounds-nodes-i c = ?
-
-pub bounds-nodes-i : goal.bounds-nodes-i
-bounds-nodes-i c = ?
-
 pub take_block-block-requires : goal.take_block-block-requires
-take_block-block-requires c = ?
-
-pub then_block-requires : goal.then_block-requires
-then_block-requires c = ?
-
-pub returns-in_err-joined-clause-block : goal.returns-in_err-joined-clause-block
-returns-in_err-joined-clause-block c = ?
-
-pub returns-in_err-joined-clause-left : goal.returns-in_err-joined-clause-left
-returns-in_err-joined-clause-left c = ?
-
-pub loop-i-smaller : goal.loop-i-smaller
-loop-i-smaller c = ?
+take_block-block-requires c = omega (arith, c.requires.inside c.loop-i.i 0 c.loop-i-test.true, c.loop-i.invariant.1.count)
 
 pub loop-i-preserved : goal.loop-i-preserved
 loop-i-preserved c = ?
 
 pub returns-clause-block : goal.returns-clause-block
-returns-clause-block c = ?
+returns-clause-block c = c.loop-i.invariant.1.joined ∙ ap (joined_blocks c.args.blocks.now) (taken_whole c.args.nodes.now c.loop-i.i c.loop-i-test.false)
 
 pub returns-clause-left : goal.returns-clause-left
-returns-clause-left c = ?
+returns-clause-left c = λ n none. c.loop-i.invariant.1.left n (λ h. none (subst (λ l. Contains l n) (taken_whole c.args.nodes.now c.loop-i.i c.loop-i-test.false) h))
