@@ -90,13 +90,13 @@ pub next_more : (f : Flow) (k : ℕ) (next : List (Option ℕ)) (o : Option ℕ)
 next_more f k next o up tells = record {
   count = omega (arith, pushed_count next o, up.count);
   each = λ a h. elim (cases_lt a k) [
-        | inl l ↦ subst (TellsNext f a) (sym (get_left next (o ∷ []) a (omega (arith, l, up.count)))) (up.each a l)
-        | inr g ↦
-            let s : a ≡ length next = omega (arith, g, h, up.count) in
-            let here : slice_index_or (next ++ o ∷ []) a None ≡ o = ap (λ i. slice_index_or (next ++ o ∷ []) i None) s ∙ get_last next o in
-            let t : k ≡ a = omega (arith, s, up.count) in
-            subst (TellsNext f a) (sym here) (subst (λ i. TellsNext f i o) t tells)
-      ];
+    | inl l ↦ subst (TellsNext f a) (sym (get_left next (o ∷ []) a (omega (arith, l, up.count)))) (up.each a l)
+    | inr g ↦
+        let s : a ≡ length next = omega (arith, g, h, up.count) in
+        let here : slice_index_or (next ++ o ∷ []) a None ≡ o = ap (λ i. slice_index_or (next ++ o ∷ []) i None) s ∙ get_last next o in
+        let t : k ≡ a = omega (arith, s, up.count) in
+        subst (TellsNext f a) (sym here) (subst (λ i. TellsNext f i o) t tells)
+  ];
 }
 
 follows_inside : (f : Flow) (a m : ℕ) → length f.blocks ≤ a → IsFollowed f a m → ⊥
@@ -130,24 +130,24 @@ pub firsts_more : (next : List (Option ℕ)) (i m : ℕ) (reached firsts : List 
 firsts_more next i m reached firsts e h up = record {
   count = length-set firsts m false ∙ up.count;
   stays = λ n g. elim (cases_eq n m) [
-        | inl s ↦ absurd (unmarked firsts m h (subst (IsMarked (set firsts m false)) s g))
-        | inr d ↦ up.stays n (sym (get_or-set_other firsts m n false false d) ∙ g)
-      ];
+    | inl s ↦ absurd (unmarked firsts m h (subst (IsMarked (set firsts m false)) s g))
+    | inr d ↦ up.stays n (sym (get_or-set_other firsts m n false false d) ∙ g)
+  ];
   first = λ k n l g a. elim (cases_eq n m) [
-        | inl s ↦ absurd (unmarked firsts m h (subst (IsMarked (set firsts m false)) s g))
-        | inr d ↦
-            elim (cases_lt k i) [
-              | inl b ↦ up.first k n b (sym (get_or-set_other firsts m n false false d) ∙ g) a
-              | inr c ↦
-                  let t : k ≡ i = omega (arith, l, c) in
-                  let o : Some n ≡ Some m = sym a ∙ ap (λ j. slice_index_or next j None) t ∙ e in
-                  d (let z : n ≡ m = cc in z)
-            ]
-      ];
+    | inl s ↦ absurd (unmarked firsts m h (subst (IsMarked (set firsts m false)) s g))
+    | inr d ↦
+        elim (cases_lt k i) [
+          | inl b ↦ up.first k n b (sym (get_or-set_other firsts m n false false d) ∙ g) a
+          | inr c ↦
+              let t : k ≡ i = omega (arith, l, c) in
+              let o : Some n ≡ Some m = sym a ∙ ap (λ j. slice_index_or next j None) t ∙ e in
+              d (let z : n ≡ m = cc in z)
+        ]
+  ];
   others = λ n g. elim (cases_eq n m) [
-        | inl s ↦ inr (i, subst (NextIn next i) (sym s) e)
-        | inr d ↦ ⊎_elim (λ a. inl (get_or-set_other firsts m n false false d ∙ a)) inr (up.others n g)
-      ];
+    | inl s ↦ inr (i, subst (NextIn next i) (sym s) e)
+    | inr d ↦ ⊎_elim (λ a. inl (get_or-set_other firsts m n false false d ∙ a)) inr (up.others n g)
+  ];
 }
 
 pub firsts_skip : (next : List (Option ℕ)) (i : ℕ) (reached firsts : List Bool) → slice_index_or next i None ≡ None → FirstsUpTo next i reached firsts → FirstsUpTo next (i + 1) reached firsts
@@ -155,11 +155,11 @@ firsts_skip next i reached firsts e up = record {
   count = up.count;
   stays = up.stays;
   first = λ k n l g a. elim (cases_lt k i) [
-        | inl b ↦ up.first k n b g a
-        | inr c ↦
-            let t : k ≡ i = omega (arith, l, c) in
-            none-some n (sym e ∙ ap (λ j. slice_index_or next j None) (sym t) ∙ a)
-      ];
+    | inl b ↦ up.first k n b g a
+    | inr c ↦
+        let t : k ≡ i = omega (arith, l, c) in
+        none-some n (sym e ∙ ap (λ j. slice_index_or next j None) (sym t) ∙ a)
+  ];
   others = up.others;
 }
 

@@ -138,8 +138,12 @@ join_few bs name (n ∷ ns) some =
 joins_few : (bs : List Block) (name : ℕ → ℕ) (stretches : List (List ℕ)) → All (λ ns. 0 < length ns) stretches → weight_of names (map (join_of bs name) stretches) ≤ weight_at names bs (concat stretches)
 joins_few bs name [] some = omega arith
 joins_few bs name (ns ∷ stretches) some =
-    omega (arith, join_few bs name ns (All-head (λ (ms : List ℕ). 0 < length ms) ns stretches some),
-      joins_few bs name stretches (All-tail (λ (ms : List ℕ). 0 < length ms) ns stretches some), weight_append names bs ns (concat stretches))
+    omega (
+      arith,
+      join_few bs name ns (All-head (λ (ms : List ℕ). 0 < length ms) ns stretches some),
+      joins_few bs name stretches (All-tail (λ (ms : List ℕ). 0 < length ms) ns stretches some),
+      weight_append names bs ns (concat stretches),
+    )
 
 -- ---- how many blocks there are
 
@@ -206,8 +210,14 @@ module _ (f g : Flow) (given : IsGiven f) (j : IsJoined f g) where
 
   few_named : length (nodes_in g.blocks) ≤ length (nodes_in f.blocks)
   few_named =
-      omega (arith, ap (λ bs. length (nodes_in bs)) j.blocks, names_weigh (map (join_of f.blocks j.name) j.stretches), names_weigh f.blocks,
-        joins_few f.blocks j.name j.stretches all_some, weight_within names (concat j.stretches) f.blocks refl j.are.once)
+      omega (
+        arith,
+        ap (λ bs. length (nodes_in bs)) j.blocks,
+        names_weigh (map (join_of f.blocks j.name) j.stretches),
+        names_weigh f.blocks,
+        joins_few f.blocks j.name j.stretches all_some,
+        weight_within names (concat j.stretches) f.blocks refl j.are.once,
+      )
 
 pub joined_is_given : JoinedIsGiven
 joined_is_given f g given j = record {

@@ -185,10 +185,10 @@ names_more firsts i b names new count more h e p s up =
       size = omega (arith, ap length p, length-append names (count ∷ []), up.size);
       counted = omega (arith, marked, count_more i b count more s, up.counted);
       each = λ n l. elim (cases_lt n i) [
-            | inl m ↦ ap (λ ns. name_by ns n) p ∙ name_left names (count ∷ []) n (omega (arith, m, up.size)) ∙ up.each n m
-            | inr g ↦
-                let t : n ≡ length names = omega (arith, g, l, up.size) in
-                let u : i ≡ n = omega (arith, g, l) in
-                ap (λ ns. name_by ns n) p ∙ ap (λ k. name_by (names ++ count ∷ []) k) t ∙ name_last names count ∙ up.counted ∙ ap (λ k. length (marked_from 0 (take k firsts))) u
-          ];
+        | inl m ↦ ap (λ ns. name_by ns n) p ∙ name_left names (count ∷ []) n (omega (arith, m, up.size)) ∙ up.each n m
+        | inr g ↦
+            let t : n ≡ length names = omega (arith, g, l, up.size) in
+            let u : i ≡ n = omega (arith, g, l) in
+            ap (λ ns. name_by ns n) p ∙ ap (λ k. name_by (names ++ count ∷ []) k) t ∙ name_last names count ∙ up.counted ∙ ap (λ k. length (marked_from 0 (take k firsts))) u
+      ];
     }

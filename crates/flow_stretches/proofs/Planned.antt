@@ -56,10 +56,10 @@ paths_once next (p ∷ paths) are each begins once =
     (subst (AllPairs (λ (a b : ℕ). a ≢ b)) (sym own.are) (path_once (NextIn next) are.apart (first_of p) own.others bp own.path))
     (paths_once next paths are rest (λ nodes c. begins nodes (contains_later p nodes paths c)) (once_tail (first_of p) (map first_of paths) once))
     (λ x y h g e.
-        let q = of_concat paths y g in
-        let alike = meet_alike next p q.0 y are own (All-contains P paths q.0 rest q.1) bp (begins q.0 (contains_later p q.0 paths q.1)) (subst (Contains p) e h) q.2 in
-        let at = got_of paths q.0 q.1 in
-        once_head (first_of p) (map first_of paths) once (first_of q.0) (contains_got (map first_of paths) at.0 (first_of q.0) (at_mapped first_of paths at.0 q.0 at.1)) alike)
+    let q = of_concat paths y g in
+    let alike = meet_alike next p q.0 y are own (All-contains P paths q.0 rest q.1) bp (begins q.0 (contains_later p q.0 paths q.1)) (subst (Contains p) e h) q.2 in
+    let at = got_of paths q.0 q.1 in
+    once_head (first_of p) (map first_of paths) once (first_of q.0) (contains_got (map first_of paths) at.0 (first_of q.0) (at_mapped first_of paths at.0 q.0 at.1)) alike)
 
 -- what is after a node of a path is one too
 path_closed : (next : List (Option ℕ)) (n : ℕ) (ms : List ℕ) (a m : ℕ) → Path (NextIn next) n ms → slice_index_or next (last_from n ms) None ≡ None → NextIn next a m → Contains (n ∷ ms) a → Contains (n ∷ ms) m

@@ -60,11 +60,13 @@ later_apart nodes i once h c =
     length_front xs zero g = refl
     length_front [] (suc k) g = absurd (let z : ⊥ = omega (arith, g) in z)
     length_front (x ∷ xs) (suc k) g = ap suc (length_front xs k (omega (arith, g)))
+
     front_same : (xs : List ℕ) (k j d : ℕ) → j < k → k ≤ length xs → get_or (take k xs) j d ≡ get_or xs j d
     front_same xs zero j d g e = absurd (let z : ⊥ = omega (arith, g) in z)
     front_same [] (suc k) j d g e = absurd (let z : ⊥ = omega (arith, e) in z)
     front_same (x ∷ xs) (suc k) zero d g e = refl
     front_same (x ∷ xs) (suc k) (suc j) d g e = front_same xs k j d (omega (arith, g)) (omega (arith, e))
+
     places : (xs : List ℕ) (k x : ℕ) → k < length xs → slice_index_or xs k x ≡ x → get_or xs k 0 ≡ x
     places [] k x g e = absurd (let z : ⊥ = omega (arith, g) in z)
     places (y ∷ xs) zero x g e = e
