@@ -18,8 +18,8 @@ use Rattle.flow_stretches.proofs.Members.{contains_here, contains_later, contain
 -- the blocks of some nodes were taken, and joined
 pub record IsTaken (old : List Block) (nodes : List ℕ) (joined : Block) (left : List Block) : Type 0 where
   pub count : length left ≡ length old
-  pub joined : joined ≡ joined_blocks old nodes
-  pub left : (n : ℕ) → (Contains nodes n → ⊥) → block_at left n ≡ block_at old n
+  pub are : joined ≡ joined_blocks old nodes
+  pub same : (n : ℕ) → (Contains nodes n → ⊥) → block_at left n ≡ block_at old n
 
 last_pushed : (m : ℕ) (ms : List ℕ) (n : ℕ) → last_from m (ms ++ n ∷ []) ≡ n
 last_pushed m [] n = refl
@@ -45,8 +45,8 @@ pushed_nodes blocks (m ∷ ms) n h = joined_pushed blocks m ms n
 pub taken_first : (old : List Block) (n : ℕ) (nodes : List ℕ) → take 1 nodes ≡ n ∷ [] → IsTaken old (take 1 nodes) (block_at old n) (set old n empty_block)
 taken_first old n nodes e = subst (λ ns. IsTaken old ns (block_at old n) (set old n empty_block)) (sym e) (record {
   count = length-set old n empty_block;
-  joined = sym (one_node old n);
-  left = λ m none. get_or-set_other old n m empty_block empty_block (λ s. none (subst (Contains (n ∷ [])) (sym s) (contains_here n [])));
+  are = sym (one_node old n);
+  same = λ m none. get_or-set_other old n m empty_block empty_block (λ s. none (subst (Contains (n ∷ [])) (sym s) (contains_here n [])));
 })
 
 -- a node that stands later isn't among the first ones
@@ -82,13 +82,13 @@ pub taken_next : (old : List Block) (nodes : List ℕ) (i n : ℕ) (joined : Blo
 taken_next old nodes i n joined left once some h e t =
     let more : take (i + 1) nodes ≡ take i nodes ++ n ∷ [] = take_more nodes i 0 h ∙ ap (λ m. take i nodes ++ m ∷ []) e in
     let full : 0 < length (take i nodes) = some_front nodes i some h in
-    let same : block_at left n ≡ block_at old n = t.left n (λ c. later_apart nodes i once h (subst (Contains (take i nodes)) (sym e) c)) in
+    let same : block_at left n ≡ block_at old n = t.same n (λ c. later_apart nodes i once h (subst (Contains (take i nodes)) (sym e) c)) in
     subst (λ ns. IsTaken old ns (then_block joined (block_at left n)) (set left n empty_block)) (sym more) (record {
       count = length-set left n empty_block ∙ t.count;
-      joined = ap (λ b. then_block b (block_at left n)) t.joined ∙ ap (λ b. then_block (joined_blocks old (take i nodes)) b) same ∙ sym (pushed_nodes old (take i nodes) n full);
-      left = λ m none.
+      are = ap (λ b. then_block b (block_at left n)) t.are ∙ ap (λ b. then_block (joined_blocks old (take i nodes)) b) same ∙ sym (pushed_nodes old (take i nodes) n full);
+      same = λ m none.
           get_or-set_other left n m empty_block empty_block (λ s. none (subst (Contains (take i nodes ++ n ∷ [])) (sym s) (Contains-push (take i nodes) n)))
-          ∙ t.left m (λ c. none (Contains-append_left (take i nodes) (n ∷ []) m c));
+          ∙ t.same m (λ c. none (Contains-append_left (take i nodes) (n ∷ []) m c));
     })
 
 -- ---- of all stretches

@@ -20,7 +20,7 @@ pub loop-i-preserved : goal.loop-i-preserved
 loop-i-preserved c = ?
 
 pub returns-clause-block : goal.returns-clause-block
-returns-clause-block c = c.loop-i.invariant.1.joined ∙ ap (joined_blocks c.args.blocks.now) (taken_whole c.args.nodes.now c.loop-i.i c.loop-i-test.false)
+returns-clause-block c = c.loop-i.invariant.1.are ∙ ap (joined_blocks c.args.blocks.now) (taken_whole c.args.nodes.now c.loop-i.i c.loop-i-test.false)
 
 pub returns-clause-left : goal.returns-clause-left
-returns-clause-left c = λ n none. c.loop-i.invariant.1.left n (λ h. none (subst (λ l. Contains l n) (taken_whole c.args.nodes.now c.loop-i.i c.loop-i-test.false) h))
+returns-clause-left c = λ n none. c.loop-i.invariant.1.same n (λ h. none (subst (λ l. Contains l n) (taken_whole c.args.nodes.now c.loop-i.i c.loop-i-test.false) h))
