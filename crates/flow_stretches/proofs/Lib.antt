@@ -4,6 +4,7 @@ pub mod Reached
 pub mod Walking
 pub mod Coming
 pub mod Taking
+pub mod Each
 pub mod Weights
 pub mod Places
 pub mod Follows

@@ -158,3 +158,18 @@ taken_whole [] zero h = refl
 taken_whole [] (suc i) h = refl
 taken_whole (n ∷ nodes) zero h = absurd (let z : ⊥ = omega (arith, h) in z)
 taken_whole (n ∷ nodes) (suc i) h = ap (λ l. n ∷ l) (taken_whole nodes i (omega (arith, h)))
+
+-- ---- as the code takes them
+
+pub taken_start : (old : List Block) (nodes : List ℕ) (joined : Block) (left : List Block) → 0 < length nodes → joined ≡ block_at old (get_or nodes 0 0) → left ≡ set old (get_or nodes 0 0) empty_block
+    → IsTaken old (take 1 nodes) joined left
+taken_start old nodes joined left some is rest =
+    subst (λ b. IsTaken old (take 1 nodes) b left) (sym is)
+    (subst (λ bs. IsTaken old (take 1 nodes) (block_at old (get_or nodes 0 0)) bs) (sym rest) (taken_first old (get_or nodes 0 0) nodes (first_taken nodes some)))
+
+pub taken_more : (old : List Block) (nodes : List ℕ) (i : ℕ) (b joined more : Block) (left after : List Block) → AllPairs (λ a b. a ≢ b) nodes → 0 < i → i < length nodes
+    → b ≡ block_at left (get_or nodes i 0) → more ≡ then_block joined b → after ≡ set left (get_or nodes i 0) empty_block
+    → IsTaken old (take i nodes) joined left → IsTaken old (take (i + 1) nodes) more after
+taken_more old nodes i b joined more left after once some h is joins rest t =
+    subst (λ c. IsTaken old (take (i + 1) nodes) c after) (sym (joins ∙ ap (then_block joined) is))
+    (subst (λ bs. IsTaken old (take (i + 1) nodes) (then_block joined (block_at left (get_or nodes i 0))) bs) (sym rest) (taken_next old nodes i (get_or nodes i 0) joined left once some h refl t))

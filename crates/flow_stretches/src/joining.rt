@@ -1,6 +1,6 @@
 //! The blocks of stretches.
 
-ghost use Rattle.std.specs.Prelude.{◌≡◌, ◌≢◌, ◌<◌, ℕ, All, AllPairs, Contains, IfOk, OnOk, length, map, slice_set};
+ghost use Rattle.std.specs.Prelude.{◌≡◌, ◌≢◌, ◌<◌, ◌++◌, ℕ, All, AllPairs, Contains, IfOk, OnOk, length, map, slice_set};
 ghost use Rattle.std.specs.List.{concat};
 ghost use Rattle.micro_ir.specs.Laws.{moved_case, moved_end};
 ghost use Rattle.flow_stretches.specs.Joined.{block_at, empty_block, join_of};
@@ -77,21 +77,32 @@ fn take_block(alloc: Global, blocks: &mut [Block], n: usize) -> Block
     mem::replace(&mut blocks[n], empty)
 }
 
+/// Statements and then others.
+fn then_stmts(first: Items<Stmt>, others: Items<Stmt>) -> Result<Items<Stmt>, AllocError>
+    ensures { IfOk result (λ stmts. stmts ≡ first ++ others) }
+{
+    let mut stmts = first;
+    stmts.append(others)?;
+    Ok(stmts)
+}
+
 /// Two blocks one after the other.
 fn then_block(a: Block, b: Block) -> Result<Block, AllocError>
     ensures { IfOk result (λ c. c ≡ then_block a b) }
 {
     let Block {
         at,
-        mut stmts,
-        end: _end,
+        stmts: first,
+        end: before,
     } = a;
-    stmts.append(b.stmts)?;
-    Ok(Block {
-        at,
-        stmts,
-        end: b.end,
-    })
+    drop(before);
+    let Block {
+        at: _,
+        stmts: others,
+        end,
+    } = b;
+    let stmts = then_stmts(first, others)?;
+    Ok(Block { at, stmts, end })
 }
 
 /// The blocks of some nodes one after another, which are taken.
@@ -123,9 +134,29 @@ fn join(
     ensures block { IfOk result (λ b. b ≡ join_of blocks.old (name_by names.now) nodes.now) }
     ensures left { OnOk result ((n : ℕ) → (Contains nodes.now n → ⊥) → block_at blocks.new n ≡ block_at blocks.old n) }
 {
-    let Block { at, stmts, end } = joined_blocks(alloc, blocks, nodes)?;
+    let joined = joined_blocks(alloc, blocks, nodes)?;
+    let Block { at, stmts, end } = joined;
     let end = renamed(alloc, names, straight(end))?;
     Ok(Block { at, stmts, end })
+}
+
+/// The blocks of stretches, which are taken from among the given ones.
+fn join_each(
+    alloc: Global,
+    blocks: &mut [Block],
+    names: &[u32],
+    stretches: &[Vec<usize>],
+) -> Result<Vec<Block>, AllocError>
+    requires some { All (λ nodes. 0 < length nodes.items) stretches.now }
+    requires inside { All (λ n. n < length blocks.old) (concat (map (λ l. l.items) stretches.now)) }
+    requires once { AllPairs (λ a b. a ≢ b) (concat (map (λ l. l.items) stretches.now)) }
+    ensures { IfOk result (λ v. v.items ≡ map (join_of blocks.old (name_by names.now)) (map (λ l. l.items) stretches.now)) }
+{
+    let mut joined = Vec::new(alloc);
+    for nodes in stretches {
+        joined.push(join(alloc, blocks, names, nodes)?)?;
+    }
+    Ok(joined)
 }
 
 /// The blocks of stretches.
@@ -141,9 +172,5 @@ pub(crate) fn join_all(
     ensures { IfOk result (λ v. v.items ≡ map (join_of blocks (name_by names.now)) (map (λ l. l.items) stretches.now)) }
 {
     let mut left = vec_of(alloc, blocks)?;
-    let mut joined = Vec::new(alloc);
-    for nodes in stretches {
-        joined.push(join(alloc, &mut left, names, nodes)?)?;
-    }
-    Ok(joined)
+    join_each(alloc, &mut left, names, stretches)
 }
