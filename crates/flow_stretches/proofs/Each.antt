@@ -96,3 +96,7 @@ joined_by f stretches lists names ns entry bs same named are first is = record {
   entry = first;
   blocks = is ∙ ap (λ l. map (join_of f.blocks (name_by ns)) l) same ∙ ap (λ l. map (join_of f.blocks (name_by l)) stretches) named;
 }
+
+-- the same bound holds in lists that are the same
+pub inside_by : (f : Flow) (stretches lists : List (List ℕ)) → lists ≡ stretches → All (λ n. n < length f.blocks) (concat stretches) → All (λ n. n < length f.blocks) (concat lists)
+inside_by f stretches lists e h = subst (λ l. All (λ n. n < length f.blocks) (concat l)) (sym e) h
