@@ -1,12 +1,12 @@
 -- A flow whose blocks were joined may be given.
-use Rattle.std.proofs.Common.{◌≡◌, ◌⊎◌, inl, inr, ℕ, zero, suc, ◌+◌, ◌^◌, ◌<◌, ◌≤◌, Bool, true, false, ◌&&◌, nat_eq, cond, List, [], ◌∷◌, ◌++◌, length, get_or, map, Option, Some, None, refl, sym, ap, ◌∙◌, subst, arith}
-use Rattle.std.specs.Prelude.{IsTrue, slice_get, slice_index, Contains, All, AllPairs}
-use Rattle.std.specs.List.{concat, flat_map, list_all}
+use Rattle.std.proofs.Common.{◌≡◌, inl, inr, ℕ, zero, suc, ◌+◌, ◌<◌, ◌≤◌, Bool, true, false, ◌&&◌, nat_eq, cond, List, [], ◌∷◌, ◌++◌, length, get_or, map, Option, Some, None, refl, sym, ap, ◌∙◌, subst, arith}
+use Rattle.std.specs.Prelude.{IsTrue, slice_get, slice_index, Contains, All}
+use Rattle.std.specs.List.{concat, flat_map}
 use Rattle.std.specs.List.Sorted.{IsStrictlyIncreasing}
 use Rattle.std.proofs.lemmas.Bool.{cases_lt}
-use Rattle.std.proofs.lemmas.List.{length-map, get_or_past}
+use Rattle.std.proofs.lemmas.List.{length-map}
 use Rattle.std.proofs.lemmas.List.Elements.{All-contains, All-head, All-tail}
-use Rattle.std.proofs.lemmas.Option.{slice_get_within, slice_get-get_or, get_or_from_slice_get}
+use Rattle.std.proofs.lemmas.Option.{slice_get_within, slice_get-get_or}
 use Rattle.c_syntax.specs.declared.syntax.CExpr.{CExpr}
 use Rattle.c_syntax.specs.declared.syntax.CCond.{CCond}
 use Rattle.micro_ir.specs.declared.flow.Case.{Case}
@@ -19,12 +19,12 @@ use Rattle.micro_ir.specs.Checked.{nodes_of}
 use Rattle.micro_ir.specs.Laws.{moved_case, moved_end}
 use Rattle.micro_ir.specs.Rule.{IsGiven, is_flow_stmt, are_flow_stmts, have_words, is_flow_cond, is_flow_word, is_flow_end, is_flow_block, are_flow_blocks, nodes_in}
 use Rattle.flow_stretches.specs.Ends.{shared_target, go_or, straight}
-use Rattle.flow_stretches.specs.Joined.{graph_of, empty_block, block_at, IsFirst, first_of, last_from, last_of, IsStretch, join_of, IsJoined}
+use Rattle.flow_stretches.specs.Joined.{block_at, IsFirst, first_of, last_from, last_of, IsStretch, join_of, IsJoined}
 use Rattle.flow_stretches.specs.Laws.{JoinedIsGiven}
-use Rattle.flow_stretches.proofs.Members.{contains_got, contains_here, contains_later, mapped, mapped_at, none_in}
+use Rattle.flow_stretches.proofs.Members.{contains_got, mapped, mapped_at}
 use Rattle.flow_stretches.proofs.Straight.{straight_names}
 use Rattle.flow_stretches.proofs.Reached.{entry_first, named_edge, target_first, reached_inside}
-use Rattle.flow_stretches.proofs.Walking.{StretchFrom, stretch_from, stretch_at, path_reached}
+use Rattle.flow_stretches.proofs.Walking.{path_reached}
 use Rattle.flow_stretches.proofs.Weights.{weight_of, weight_at, weight_within, weight_append, names_weigh}
 
 -- ---- the rule

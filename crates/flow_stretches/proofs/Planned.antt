@@ -1,5 +1,5 @@
 -- The stretches that are found are those of the flow.
-use Rattle.std.proofs.Common.{◌≡◌, ◌≢◌, ◌⊎◌, inl, inr, ⊎_elim, ℕ, zero, suc, ◌+◌, ◌<◌, ◌≤◌, ◌↔◌, Bool, true, false, List, [], ◌∷◌, ◌++◌, length, get_or, map, take, Option, Some, None, refl, sym, ap, ◌∙◌, subst, arith}
+use Rattle.std.proofs.Common.{◌≡◌, ◌≢◌, ◌⊎◌, inl, inr, ℕ, ◌<◌, ◌↔◌, Bool, List, [], ◌∷◌, length, get_or, map, take, Option, Some, None, sym, ap, ◌∙◌, subst, arith}
 use Rattle.std.specs.Prelude.{slice_get, slice_index_or, Contains, All, AllPairs}
 use Rattle.std.specs.List.{concat}
 use Rattle.std.specs.List.Sorted.{IsStrictlyIncreasing}
@@ -7,7 +7,7 @@ use Rattle.std.proofs.lemmas.List.Elements.{All-contains, All-head, All-tail, Co
 use Rattle.std.proofs.lemmas.List.{length-map}
 use Rattle.micro_ir.specs.Checked.{nodes_of}
 use Rattle.flow_stretches.specs.declared.comers.Comers.{Comers}
-use Rattle.graph_order.specs.Graph.{Digraph, HasEdge, IsReached, Walk, stay, step, IsMarked}
+use Rattle.graph_order.specs.Graph.{Digraph, IsReached, Walk, stay, step, IsMarked}
 use Rattle.micro_ir.specs.declared.flow.Block.{Block}
 use Rattle.micro_ir.specs.declared.flow.Flow.{Flow}
 use Rattle.micro_ir.specs.Rule.{IsGiven}

@@ -1,15 +1,14 @@
 -- The nodes that are reached, and the blocks at them.
-use Rattle.std.proofs.Common.{◌≡◌, ◌⊎◌, inl, inr, ℕ, ◌<◌, ◌≤◌, List, [], ◌∷◌, length, map, Option, Some, None, refl, sym, ap, ◌∙◌, subst, arith}
+use Rattle.std.proofs.Common.{◌≡◌, inl, inr, ℕ, ◌<◌, [], length, Some, refl, sym, subst}
 use Rattle.std.specs.Prelude.{slice_get, slice_index_or, Contains}
 use Rattle.std.proofs.Math.ListN.{get_or-map}
 use Rattle.std.proofs.lemmas.Bool.{cases_lt}
 use Rattle.std.proofs.lemmas.List.{get_or_past}
 use Rattle.std.proofs.lemmas.Option.{slice_get-get_or}
-use Rattle.graph_order.specs.Graph.{HasEdge, IsReached, Walk, stay, step}
+use Rattle.graph_order.specs.Graph.{HasEdge, IsReached, stay, step}
 use Rattle.micro_ir.specs.declared.flow.Block.{Block}
 use Rattle.micro_ir.specs.declared.flow.Flow.{Flow}
 use Rattle.micro_ir.specs.Checked.{nodes_of, IsChecked}
-use Rattle.flow_stretches.specs.Ends.{only_target}
 use Rattle.flow_stretches.specs.Joined.{graph_of, empty_block, block_at, IsFollowed, IsFirst}
 use Rattle.flow_stretches.proofs.Members.{none_in}
 use Rattle.flow_stretches.proofs.Straight.{only_is_named}

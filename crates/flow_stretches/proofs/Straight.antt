@@ -1,9 +1,9 @@
 -- Ends that go where they lead in any case.
-use Rattle.std.proofs.Common.{◌≡◌, ◌⊎◌, inl, inr, ⊎_elim, ℕ, Bool, true, false, ◌&&◌, nat_eq, cond, List, [], ◌∷◌, Option, Some, None, map, refl, sym, ap, ◌∙◌, subst, arith, rules}
+use Rattle.std.proofs.Common.{◌≡◌, ◌⊎◌, inl, inr, ℕ, Bool, true, false, ◌&&◌, nat_eq, cond, List, [], ◌∷◌, Option, Some, None, map, refl, sym, ap, ◌∙◌, subst}
 use Rattle.std.specs.Prelude.{Contains}
 use Rattle.std.specs.List.{list_all}
-use Rattle.run_parts.specs.Steps.{Next, Halt, Jam, To, End, Nowhere, arrive}
-use Rattle.run_parts.specs.World.{World, returned}
+use Rattle.run_parts.specs.Steps.{Next, Halt, Jam, To, Nowhere, arrive}
+use Rattle.run_parts.specs.World.{World}
 use Rattle.run_parts.specs.Effects.{Doing}
 use Rattle.c_syntax.specs.declared.syntax.CExpr.{CExpr}
 use Rattle.c_syntax.specs.declared.syntax.CCond.{CCond}

@@ -1,19 +1,17 @@
 -- Blocks that are taken from among others, one after another.
-use Rattle.std.proofs.Common.{◌≡◌, ◌≢◌, ◌⊎◌, inl, inr, ℕ, zero, suc, ◌+◌, ◌<◌, ◌≤◌, List, [], ◌∷◌, ◌++◌, length, get_or, set, take, drop, map, refl, sym, ap, ◌∙◌, subst, arith, append-nil, append_assoc}
+use Rattle.std.proofs.Common.{◌≡◌, ◌≢◌, ℕ, zero, suc, ◌+◌, ◌<◌, ◌≤◌, List, [], ◌∷◌, ◌++◌, length, get_or, set, take, map, refl, sym, ap, ◌∙◌, subst, arith, append-nil}
 use Rattle.std.specs.Prelude.{Contains, All, AllPairs, slice_index_or}
 use Rattle.std.specs.List.{flat_map, concat}
-use Rattle.std.proofs.lemmas.Bool.{cases_lt, cases_eq}
-use Rattle.std.proofs.lemmas.List.{get_or-set_same, get_or-set_other, length-set, take_more, get_or-take}
+use Rattle.std.proofs.lemmas.List.{get_or-set_other, length-set, take_more}
 use Rattle.std.proofs.lemmas.List.Concat.{flat_map-append}
 use Rattle.std.proofs.lemmas.List.Elements.{Contains-append_left, Contains-append_right, Contains-push, Contains-get_or}
 use Rattle.micro_ir.specs.declared.flow.Stmt.{Stmt}
 use Rattle.micro_ir.specs.declared.flow.Block.{Block}
-use Rattle.flow_stretches.specs.Joined.{empty_block, block_at, first_of, last_from, last_of, join_of}
+use Rattle.flow_stretches.specs.Joined.{empty_block, block_at, last_from, join_of}
 use Rattle.flow_stretches.specs.Known.{then_block, joined_blocks}
-use Rattle.std.proofs.Common.{drop-cons}
 use Rattle.std.proofs.lemmas.List.Elements.{All-head, All-tail}
 use Rattle.flow_stretches.proofs.Marking.{once_left, once_right, once_apart}
-use Rattle.flow_stretches.proofs.Members.{contains_here, contains_later, contains_cases, none_in}
+use Rattle.flow_stretches.proofs.Members.{contains_here, contains_later}
 
 -- the blocks of some nodes were taken, and joined
 pub record IsTaken (old : List Block) (nodes : List ℕ) (joined : Block) (left : List Block) : Type 0 where

@@ -1,28 +1,21 @@
 -- The runs of joined blocks are runs of the blocks.
-use Rattle.std.proofs.Common.{◌≡◌, ◌⊎◌, inl, inr, ℕ, zero, suc, ◌+◌, ◌<◌, ◌≤◌, List, [], ◌∷◌, ◌++◌, length, map, Option, Some, None, refl, sym, ap, ◌∙◌, subst, arith, append-nil}
-use Rattle.std.specs.Prelude.{slice_get, slice_index_or, Contains, All}
+use Rattle.std.proofs.Common.{◌≡◌, inl, inr, ℕ, zero, suc, ◌+◌, ◌≤◌, List, [], ◌∷◌, ◌++◌, length, Some, refl, sym, ap, ◌∙◌, subst, arith, append-nil}
+use Rattle.std.specs.Prelude.{slice_get}
 use Rattle.std.specs.List.{flat_map}
 use Rattle.std.proofs.lemmas.List.Elements.{All-contains}
-use Rattle.dream_words.specs.declared.outcome.Start.{Start}
-use Rattle.dream_words.specs.declared.outcome.Answer.{Answer}
-use Rattle.dream_words.specs.declared.outcome.Outcome.{Outcome}
-use Rattle.dream_words.specs.declared.outcome.Outcome.TheVariants as outcome
 use Rattle.run_parts.specs.Steps.{Did, Next, Halt, Jam, To, End, Nowhere, then_do, arrive}
 use Rattle.run_parts.specs.World.{World, start_world}
 use Rattle.run_parts.specs.Effects.{Doing}
-use Rattle.graph_order.specs.Graph.{HasEdge, IsReached}
+use Rattle.graph_order.specs.Graph.{IsReached}
 use Rattle.micro_ir.specs.declared.flow.Stmt.{Stmt}
 use Rattle.micro_ir.specs.declared.flow.End.{End as BlockEnd}
 use Rattle.micro_ir.specs.declared.flow.Block.{Block}
 use Rattle.micro_ir.specs.declared.flow.Flow.{Flow}
-use Rattle.micro_ir.specs.Checked.{nodes_of}
 use Rattle.micro_ir.specs.Rule.{IsGiven}
-use Rattle.micro_ir.specs.Run.{Arrive, stmt_does, stmts_do, end_leads, block_leads, enter, onward, walk, outcome_of, flow_run}
-use Rattle.micro_ir.specs.Laws.{moved_end, relocate}
-use Rattle.micro_ir.proofs.More.{more_blocks, more_from, end_stays}
+use Rattle.micro_ir.specs.Run.{Arrive, stmt_does, stmts_do, end_leads, block_leads, enter, onward, walk, outcome_of}
+use Rattle.micro_ir.specs.Laws.{relocate}
+use Rattle.micro_ir.proofs.More.{more_from, end_stays}
 use Rattle.micro_ir.proofs.Moves.{blocks_move}
-use Rattle.flow_passes.specs.Along.{NeverStuck}
-use Rattle.flow_passes.specs.Keeps.{JoinsRuns}
 use Rattle.flow_stretches.specs.Ends.{only_target, straight}
 use Rattle.flow_stretches.specs.Joined.{graph_of, block_at, IsFollowed, IsFirst, last_from, Path, IsStretch, join_of, IsJoined}
 use Rattle.flow_stretches.specs.Laws.{JoinedRuns}

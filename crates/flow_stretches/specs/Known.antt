@@ -1,5 +1,5 @@
 -- What the code knows of the blocks of a flow.
-use Rattle.std.specs.Prelude.{◌≡◌, ◌≢◌, ◌↔◌, ◌⊎◌, ◌<◌, ℕ, suc, nat_eq, Bool, true, false, List, [], ◌∷◌, ◌++◌, All, Option, Some, None, length, map, slice_index, slice_index_or, if◌then◌else◌}
+use Rattle.std.specs.Prelude.{◌≡◌, ◌≢◌, ◌↔◌, ◌<◌, ℕ, suc, nat_eq, Bool, true, false, List, [], ◌∷◌, ◌++◌, All, Option, Some, None, length, map, slice_index, slice_index_or, if◌then◌else◌}
 use Rattle.graph_order.specs.Graph.{Digraph, HasEdge, IsReached, IsMarked}
 use Rattle.std.specs.List.{flat_map}
 use Rattle.micro_ir.specs.declared.flow.Block.{Block}

@@ -1,11 +1,8 @@
 -- What holds of a flow whose blocks are those of another one, joined.
-use Rattle.std.specs.Prelude.{◌≡◌, map}
-use Rattle.std.specs.List.{concat}
 use Rattle.micro_ir.specs.declared.flow.Flow.{Flow}
-use Rattle.micro_ir.specs.Counts.{stores_of, calls_of}
 use Rattle.micro_ir.specs.Rule.{IsGiven}
 use Rattle.flow_passes.specs.Keeps.{JoinsRuns}
-use Rattle.flow_stretches.specs.Joined.{IsJoined, block_at}
+use Rattle.flow_stretches.specs.Joined.{IsJoined}
 
 -- Its runs are those of the other one.
 abbrev pub JoinedRuns : Type 0

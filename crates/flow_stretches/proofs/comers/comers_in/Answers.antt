@@ -1,5 +1,4 @@
-use Rattle.std.proofs.Common.{◌≡◌, ℕ, List, [], length, take, drop, ◌++◌, ◌∙◌, ap, sym, subst, arith, replicate}
-use Rattle.std.specs.Prelude.{slice_index_or}
+use Rattle.std.proofs.Common.{◌≡◌, ℕ, List, length, take, drop, ◌++◌, ◌∙◌, ap, subst, arith, replicate}
 use Rattle.std.proofs.lemmas.Grind.{common_steps}
 use Rattle.flow_stretches.specs.declared.comers.Comers.{Comers}
 use Rattle.flow_stretches.specs.declared.comers.Comers.TheVariants as comers

@@ -1,5 +1,5 @@
-use Rattle.std.proofs.Common.{◌≡◌, ap, refl, ◌∙◌, sym, subst, arith, ◌+◌, Some, None}
-use Rattle.flow_stretches.proofs.Follows.{FirstsUpTo, firsts_none, firsts_more, firsts_skip, firsts_all}
+use Rattle.std.proofs.Common.{arith}
+use Rattle.flow_stretches.proofs.Follows.{firsts_none, firsts_more, firsts_skip, firsts_all}
 use Rattle.flow_stretches.proofs.following.firsts_in.Goals as goal
 use Rattle.flow_stretches.proofs.following.firsts_in.Goals.{in-Some, in_default}
 

@@ -1,4 +1,4 @@
-use Rattle.std.proofs.Common.{◌≡◌, ap, refl, ◌∙◌, sym, subst, arith, ◌+◌}
+use Rattle.std.proofs.Common.{sym, subst, arith, ◌+◌}
 use Rattle.micro_ir.specs.declared.flow.Flow.{Flow}
 use Rattle.flow_stretches.proofs.Follows.{NextUpTo, next_none, next_more, next_all}
 use Rattle.flow_stretches.proofs.following.next_in.Goals as goal

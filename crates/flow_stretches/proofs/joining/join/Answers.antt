@@ -1,4 +1,3 @@
-use Rattle.std.proofs.Common.{◌≡◌, ap, refl, ◌∙◌, sym}
 use Rattle.flow_stretches.specs.Known.{name_by}
 use Rattle.flow_stretches.proofs.Each.{join_by}
 use Rattle.flow_stretches.proofs.joining.join.Goals as goal

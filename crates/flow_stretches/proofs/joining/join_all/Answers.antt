@@ -1,4 +1,4 @@
-use Rattle.std.proofs.Common.{◌≡◌, ◌<◌, ℕ, List, map, length, ap, refl, ◌∙◌, sym, subst}
+use Rattle.std.proofs.Common.{◌≡◌, ◌<◌, map, length, ◌∙◌, sym, subst}
 use Rattle.std.specs.Prelude.{All, IfOk}
 use Rattle.std.specs.List.{concat}
 use Rattle.flow_stretches.specs.Joined.{join_of}

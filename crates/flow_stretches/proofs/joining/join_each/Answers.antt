@@ -1,4 +1,4 @@
-use Rattle.std.proofs.Common.{◌≡◌, ◌++◌, ◌∷◌, [], map, take, drop, suc, length, ap, refl, ◌∙◌, sym, subst, arith}
+use Rattle.std.proofs.Common.{map, take, drop, suc}
 use Rattle.flow_stretches.specs.Known.{name_by}
 use Rattle.flow_stretches.proofs.Taking.{next_some, next_inside, next_once}
 use Rattle.flow_stretches.proofs.Each.{each_none, each_at, each_more, each_all}

@@ -1,4 +1,4 @@
-use Rattle.std.proofs.Common.{◌≡◌, ◌<◌, ◌+◌, ap, sym, ◌∙◌, subst, arith, get_or, take, refl}
+use Rattle.std.proofs.Common.{ap, ◌∙◌, subst, arith}
 use Rattle.std.specs.Prelude.{Contains}
 use Rattle.flow_stretches.specs.Known.{joined_blocks}
 use Rattle.flow_stretches.proofs.Taking.{taken_start, taken_more, taken_whole}
@@ -17,10 +17,11 @@ pub take_block-block-requires : goal.take_block-block-requires
 take_block-block-requires c = omega (arith, c.requires.inside c.loop-i.i 0 c.loop-i-test.true, c.loop-i.invariant.1.count)
 
 pub loop-i-preserved : goal.loop-i-preserved
-loop-i-preserved c =
-    (omega (arith, c.loop-i.invariant.0),
-    taken_more c.args.blocks.now c.args.nodes.now c.loop-i.i c.take_block-block.result c.loop-i.joined c.in_ok-joined.joined c.loop-i.blocks c.take_block-block.new.blocks c.requires.once c.loop-i.invariant.0 c.loop-i-test.true
-    c.take_block-block.ensures.value (c.in_ok-joined.ensures {u = tt}) c.take_block-block.ensures.left c.loop-i.invariant.1)
+loop-i-preserved c = (
+  omega (arith, c.loop-i.invariant.0),
+  taken_more c.args.blocks.now c.args.nodes.now c.loop-i.i c.take_block-block.result c.loop-i.joined c.in_ok-joined.joined c.loop-i.blocks c.take_block-block.new.blocks c.requires.once c.loop-i.invariant.0 c.loop-i-test.true
+      c.take_block-block.ensures.value (c.in_ok-joined.ensures {u = tt}) c.take_block-block.ensures.left c.loop-i.invariant.1,
+)
 
 pub returns-clause-block : goal.returns-clause-block
 returns-clause-block c = c.loop-i.invariant.1.are ∙ ap (joined_blocks c.args.blocks.now) (taken_whole c.args.nodes.now c.loop-i.i c.loop-i-test.false)

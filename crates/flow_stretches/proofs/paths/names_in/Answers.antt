@@ -1,5 +1,5 @@
-use Rattle.std.proofs.Common.{◌++◌, ◌∷◌, [], ap, refl, ◌∙◌, sym, arith, true, false}
-use Rattle.flow_stretches.proofs.Marking.{NamesUpTo, few_before, names_none, names_more}
+use Rattle.std.proofs.Common.{arith, true, false}
+use Rattle.flow_stretches.proofs.Marking.{few_before, names_none, names_more}
 use Rattle.flow_stretches.proofs.paths.names_in.Goals as goal
 use Rattle.flow_stretches.proofs.paths.names_in.Goals.{then-first, else-first}
 

@@ -1,6 +1,5 @@
-use Rattle.std.proofs.Common.{◌≡◌, ◌++◌, ◌∷◌, [], ap, refl, ◌∙◌, sym, subst, arith, Some, None, length, length-append}
+use Rattle.std.proofs.Common.{◌++◌, ◌∷◌, [], ap, ◌∙◌, sym, subst, arith, None, length, length-append}
 use Rattle.std.specs.Prelude.{slice_index_or}
-use Rattle.flow_stretches.specs.Known.{NextIn}
 use Rattle.flow_stretches.proofs.Places.{PathTo, path_alone, path_more, path_short, path_whole, none_of}
 use Rattle.flow_stretches.proofs.paths.path_from.Goals as goal
 

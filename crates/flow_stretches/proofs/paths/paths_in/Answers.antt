@@ -1,5 +1,4 @@
-use Rattle.std.proofs.Common.{◌≡◌, ◌++◌, ◌∷◌, [], map, ap, refl, ◌∙◌, sym, subst, arith, length}
-use Rattle.flow_stretches.specs.Known.{ArePaths}
+use Rattle.std.proofs.Common.{map, arith}
 use Rattle.flow_stretches.proofs.Places.{paths_none, paths_more, paths_skip, paths_all}
 use Rattle.flow_stretches.proofs.paths.paths_in.Goals as goal
 use Rattle.flow_stretches.proofs.paths.paths_in.Goals.{then-firsts-n+in_ok-path_from+in_ok-push, else-firsts-n}

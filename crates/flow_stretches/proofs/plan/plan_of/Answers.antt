@@ -1,4 +1,4 @@
-use Rattle.std.proofs.Common.{◌≡◌, ℕ, ◌<◌, ◌^◌, map, length, ap, refl, ◌∙◌, sym, subst, arith}
+use Rattle.std.proofs.Common.{ℕ, ◌<◌, map, length, ◌∙◌, sym, subst, arith}
 use Rattle.micro_ir.specs.declared.flow.Flow.{Flow}
 use Rattle.flow_stretches.specs.Known.{IsKnown, NextIn, AreNext}
 use Rattle.flow_stretches.proofs.Planned.{ArePlanned, known_of, known_by, planned_by, paths_by, begin_by, names_by, next_within, are_next, are_stretches}

@@ -1,10 +1,9 @@
-use Rattle.std.proofs.Common.{◌≡◌, ◌<◌, ◌≢◌, ℕ, map, length, ap, refl, ◌∙◌, sym, subst, arith}
+use Rattle.std.proofs.Common.{◌≡◌, ◌<◌, ◌≢◌, map, length, ap, ◌∙◌, sym, subst, arith}
 use Rattle.std.specs.Prelude.{All, AllPairs}
 use Rattle.std.specs.List.{concat}
 use Rattle.std.proofs.lemmas.List.{get_or_read}
 use Rattle.micro_ir.specs.Rule.{IsGiven}
-use Rattle.micro_ir.specs.declared.flow.Flow.{Flow}
-use Rattle.flow_stretches.specs.Joined.{AreStretches, IsJoined}
+use Rattle.flow_stretches.specs.Joined.{AreStretches}
 use Rattle.flow_stretches.specs.Known.{name_by}
 use Rattle.flow_stretches.proofs.Each.{some_vecs, are_by, inside_by, joined_by}
 use Rattle.flow_stretches.proofs.Planned.{some_each, inside_all}
