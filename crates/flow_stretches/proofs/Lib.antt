@@ -1,0 +1,13 @@
+pub mod Members
+pub mod Straight
+pub mod Reached
+pub mod Walking
+pub mod Coming
+pub mod Taking
+pub mod Each
+pub mod Weights
+pub mod Places
+pub mod Follows
+pub mod Marking
+pub mod Planned
+pub mod Given
