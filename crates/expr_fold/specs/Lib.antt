@@ -1,0 +1,3 @@
+pub mod Delayed
+pub mod Placed
+pub mod Follows
