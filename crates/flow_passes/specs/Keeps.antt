@@ -14,6 +14,7 @@ use Rattle.micro_ir.specs.declared.flow.End.TheVariants as end
 use Rattle.micro_ir.specs.declared.flow.Block.{Block}
 use Rattle.micro_ir.specs.declared.flow.Flow.{Flow}
 use Rattle.micro_ir.specs.Run.{Arrive, enter, flow_run}
+use Rattle.flow_passes.specs.Along.{NeverStuck}
 use Rattle.micro_ir.specs.Counts.{stores_of_stmts, calls_of_stmts}
 
 -- a start and answers whose words, bytes and answers are in their ranges
@@ -22,11 +23,7 @@ pub record InRange (start : Start) (answers : List Answer) : Type 0 where
   pub fs : start.fs < 2 ^ 32
   pub gs : start.gs < 2 ^ 32
   pub mem : AreBytes start.mem
-  pub answers : AreAnswers answers
-
--- no run is stuck
-abbrev pub NeverStuck : (ℕ → Outcome) → Type 0
-NeverStuck run = (k : ℕ) → run k ≡ outcome.Stuck → ⊥
+  pub answered : AreAnswers answers
 
 -- ---- the same blocks
 

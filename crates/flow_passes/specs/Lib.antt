@@ -1,4 +1,5 @@
 pub mod Uses
 pub mod Alike
+pub mod Along
 pub mod Keeps
 pub mod Laws

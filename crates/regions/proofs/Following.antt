@@ -18,11 +18,12 @@ use Rattle.micro_ir.specs.Laws.{ArriveShows}
 use Rattle.micro_ir.proofs.More.{one_end, goes_before, calls_later}
 use Rattle.guarded.specs.declared.tree.Tree.{Tree}
 use Rattle.guarded.specs.Run.{tree_does}
-use Rattle.regions.specs.Follows.{NeverStuck, GoesAlong, Follows}
+use Rattle.flow_passes.specs.Along.{NeverStuck, GoesAlong}
+use Rattle.regions.specs.Follows.{Follows}
 use Rattle.regions.proofs.Core.{core, start_bare}
 use Rattle.regions.proofs.Entries.{entries, one_more_head, heads_at_most}
 use Rattle.regions.proofs.Tracks.{Place, Clear, Sound, Kept, Tracks}
-use Rattle.regions.proofs.Ended.{ended}
+use Rattle.flow_passes.proofs.Ended.{ended}
 
 -- no place
 abbrev pub None_such : ℕ → World → Type 0

@@ -2,7 +2,6 @@ pub mod Agreed
 pub mod Core
 pub mod Entries
 pub mod Tracks
-pub mod Ended
 pub mod Following
 pub mod Standing
 pub mod Blocks
