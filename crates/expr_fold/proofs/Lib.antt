@@ -1,0 +1,5 @@
+pub mod Named
+pub mod Layers
+pub mod Placing
+pub mod Lists
+pub mod Lagging

@@ -4,7 +4,7 @@ use Rattle.dream_words.specs.declared.machine.Name.{Name}
 use Rattle.run_parts.specs.World.{Names}
 use Rattle.c_syntax.specs.Value.{word_of}
 use Rattle.micro_ir.specs.Rule.{is_flow_target, is_flow_word}
-use Rattle.flow_passes.specs.Uses.{NameSet, same_name, is_register, is_flag, word_reads}
+use Rattle.flow_passes.specs.Uses.{NameSet, same_name, is_flag, word_reads}
 use Rattle.expr_fold.specs.declared.delayed.Delayed.{Delayed}
 
 -- a name is delayed
@@ -21,9 +21,10 @@ none_reads (d ∷ ds) n = not (word_reads d.word n) && none_reads ds n
 abbrev pub without : Name → List Delayed → List Delayed
 without n = filter (λ d. not (same_name d.name n))
 
--- the delayed sets of names that aren't flags
-abbrev pub without_flags : List Delayed → List Delayed
-without_flags = filter (λ d. not (is_flag d.name))
+-- only flags are delayed
+abbrev pub are_flags : List Delayed → Bool
+are_flags [] = true
+are_flags (d ∷ ds) = is_flag d.name && are_flags ds
 
 -- each delayed set may stand in a flow
 abbrev pub are_flow_delayed : List Delayed → Bool

@@ -2,7 +2,7 @@
 use Rattle.std.specs.Prelude.{◌≡◌, ◌⊎◌, ◌++◌, false, List, [], ◌∷◌, IsTrue}
 use Rattle.dream_words.specs.declared.machine.Name.{Name}
 use Rattle.run_parts.specs.Steps.{Next, Halt, Jam}
-use Rattle.run_parts.specs.World.{World}
+use Rattle.run_parts.specs.World.{World, Names}
 use Rattle.run_parts.specs.Effects.{Doing}
 use Rattle.micro_ir.specs.declared.flow.Stmt.{Stmt}
 use Rattle.micro_ir.specs.Rule.{is_flow_stmt, are_flow_stmts}
@@ -16,11 +16,15 @@ use Rattle.flow_passes.specs.Laws.{Within}
 use Rattle.expr_fold.specs.declared.delayed.Delayed.{Delayed}
 use Rattle.expr_fold.specs.Delayed.{is_delayed, are_flow_delayed, AreHeld}
 
--- The new world is behind the old one by the delayed sets: their words have the values of their names, and what else is
+-- The new names u lag behind the old ones v by the delayed sets: their words have the values of their names, and what else is
 -- seen is the same.
+pub record Lags (seen : NameSet) (delayed : List Delayed) (v u : Names) : Type 0 where
+  pub held : AreHeld delayed v u
+  pub others : (n : Name) → IsTrue (seen n) → is_delayed delayed n ≡ false → u n ≡ v n
+
+-- The new world is behind the old one: its names lag.
 pub record Behind (seen : NameSet) (delayed : List Delayed) (w u : World) : Type 0 where
-  pub held : AreHeld delayed w.names u.names
-  pub others : (n : Name) → IsTrue (seen n) → is_delayed delayed n ≡ false → u.names n ≡ w.names n
+  pub names : Lags seen delayed w.names u.names
   pub mem : u.mem ≡ w.mem
   pub pages : u.pages ≡ w.pages
   pub left : u.left ≡ w.left

@@ -1,7 +1,7 @@
 //! A block as far as words are put in place.
 
 ghost use Rattle.std.specs.Prelude.{◌≡◌, ◌<◌, ◌++◌, [], ◌∷◌, length, OnOk};
-ghost use Rattle.expr_fold.specs.Delayed.{is_delayed, none_reads, without, without_flags};
+ghost use Rattle.expr_fold.specs.Delayed.{is_delayed, none_reads, without};
 ghost use Rattle.expr_fold.specs.Follows.{Waits};
 
 use crate::delayed::Delayed;
@@ -59,14 +59,6 @@ impl Folding {
         ensures done { self.new.done ≡ self.old.done }
     {
         self.delayed.retain(|d| !names::same_name(d.name, n));
-    }
-
-    /// Drops the delayed flags.
-    fn forget_flags(&mut self)
-        ensures delayed { self.new.delayed.items ≡ without_flags self.old.delayed.items }
-        ensures done { self.new.done ≡ self.old.done }
-    {
-        self.delayed.retain(|d| !names::is_flag(d.name));
     }
 
     /// Sets the name of a delayed set now, unless another delayed word reads it.
