@@ -3,3 +3,5 @@ pub mod Layers
 pub mod Placing
 pub mod Lists
 pub mod Lagging
+pub mod Doing
+pub mod Taking
