@@ -5,3 +5,4 @@ pub mod Lists
 pub mod Lagging
 pub mod Doing
 pub mod Taking
+pub mod Stepping

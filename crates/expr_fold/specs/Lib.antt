@@ -1,3 +1,5 @@
 pub mod Delayed
 pub mod Placed
 pub mod Follows
+pub mod Fits
+pub mod Folds

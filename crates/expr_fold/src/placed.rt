@@ -1,14 +1,13 @@
 //! Words, Conds and statements in which delayed words stand in the place of their names.
 
 ghost use Rattle.std.specs.Prelude.{◌≡◌, drop, IfOk};
-ghost use Rattle.expr_fold.specs.Placed.{stands_for, placed_word, placed_cond, placed_stmt};
+ghost use Rattle.expr_fold.specs.Placed.{stands_for, placed_word, placed_cond};
 
 use crate::delayed::Delayed;
 use crate::names::same_name;
 use c_syntax::{CCond, CExpr};
 use c_words::copy_word;
 use dream_words::Name;
-use micro_ir::Stmt;
 use sqlite_items::Boxed;
 use std::alloc::{AllocError, Global};
 
@@ -106,21 +105,4 @@ fn boxed_cond(
 {
     let t = cond(alloc, delayed, t.get())?;
     Boxed::new(alloc, t)
-}
-
-/// A statement with delayed words in place.
-pub(crate) fn stmt(alloc: Global, delayed: &[Delayed], s: &Stmt) -> Result<Stmt, AllocError>
-    ensures { IfOk result (λ r. r ≡ placed_stmt delayed.now s.now) }
-{
-    match s {
-        Stmt::Set(n, e) => Ok(Stmt::Set(*n, word(alloc, delayed, e)?)),
-        Stmt::Load(n, width, e) => Ok(Stmt::Load(*n, *width, word(alloc, delayed, e)?)),
-        Stmt::Store(width, e, f) => {
-            let e = word(alloc, delayed, e)?;
-            let f = word(alloc, delayed, f)?;
-            Ok(Stmt::Store(*width, e, f))
-        }
-        Stmt::Ext(e) => Ok(Stmt::Ext(word(alloc, delayed, e)?)),
-        Stmt::Trap(vector, e) => Ok(Stmt::Trap(*vector, word(alloc, delayed, e)?)),
-    }
 }

@@ -1,7 +1,6 @@
 use Rattle.std.proofs.Common.{not, rules}
 use Rattle.std.proofs.lemmas.Fn.{filter_same}
 use Rattle.flow_passes.specs.Uses.{same_name}
-use Rattle.expr_fold.proofs.Taking.{takes_set}
 use Rattle.expr_fold.proofs.folding.Folding.forget.Goals as goal
 
 pub returns-clause-delayed : goal.returns-clause-delayed
