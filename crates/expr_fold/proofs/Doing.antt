@@ -70,9 +70,11 @@ pub store_behind : (width : Width) (a b : CExpr) (seen after : NameSet) (p : Lis
 store_behind width a b seen after p w v s l =
     having_behind after p (word_in a w) (word_in (placed_word p a) (record w { names = v })) _ _ (value_lags a seen p w.names v (λ n r. s.reads n (or_left (word_reads a n) (word_reads b n) r)) l)
     (λ at. having_behind after p (word_in b w) (word_in (placed_word p b) (record w { names = v })) _ _ (value_lags b seen p w.names v (λ n r. s.reads n (or_right (word_reads a n) (word_reads b n) r)) l)
-    (λ x. allowed_behind after p (first_bad w.pages.write at (bytes_of width)) w v _ _
-    (record w { names = v; mem = store w.mem at (bytes_of width) x }, refl,
-    record { names = lag_within after seen p w.names v (unset_within (λ n. false) seen after s.after_it (λ n. refl)) l; mem = refl; pages = refl; left = refl; calls = refl })))
+    (λ x. allowed_behind after p (first_bad w.pages.write at (bytes_of width)) w v _ _ (
+      record w { names = v; mem = store w.mem at (bytes_of width) x },
+      refl,
+      record { names = lag_within after seen p w.names v (unset_within (λ n. false) seen after s.after_it (λ n. refl)) l; mem = refl; pages = refl; left = refl; calls = refl },
+    )))
 
 pub trap_does : (vector : ℕ) (a : CExpr) (seen after : NameSet) (p : List Delayed) (w : World) (v : Names) → Sees (stmt.Trap vector a) seen after → Lags seen p w.names v
     → DoesBehind after p (stmt_does (stmt.Trap vector a) w) (stmt_does (placed_stmt p (stmt.Trap vector a)) (record w { names = v }))
@@ -85,9 +87,11 @@ pub load_behind : (m : Name) (width : Width) (a : CExpr) (seen after : NameSet) 
     → DoesBehind after (without m p) (stmt_does (stmt.Load m width a) w) (stmt_does (placed_stmt p (stmt.Load m width a)) (record w { names = v }))
 load_behind m width a seen after p w v t r s l =
     having_behind after (without m p) (word_in a w) (word_in (placed_word p a) (record w { names = v })) _ _ (value_lags a seen p w.names v s.reads l)
-    (λ at. allowed_behind after (without m p) (first_bad w.pages.read at (bytes_of width)) w v _ _
-    (set_word m (load w.mem at (bytes_of width)) (record w { names = v }), refl,
-    record { names = lag_load seen after m (load w.mem at (bytes_of width)) p w.names v t r s.after_it l; mem = refl; pages = refl; left = refl; calls = refl }))
+    (λ at. allowed_behind after (without m p) (first_bad w.pages.read at (bytes_of width)) w v _ _ (
+      set_word m (load w.mem at (bytes_of width)) (record w { names = v }),
+      refl,
+      record { names = lag_load seen after m (load w.mem at (bytes_of width)) p w.names v t r s.after_it l; mem = refl; pages = refl; left = refl; calls = refl },
+    ))
 
 -- ---- calls
 

@@ -6,3 +6,5 @@ pub mod Lagging
 pub mod Doing
 pub mod Taking
 pub mod Stepping
+pub mod Ending
+pub mod Folded

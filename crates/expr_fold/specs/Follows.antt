@@ -1,5 +1,5 @@
 -- How the new statements of a block follow the old ones while some sets are delayed.
-use Rattle.std.specs.Prelude.{◌≡◌, ◌⊎◌, ◌++◌, false, List, [], ◌∷◌, IsTrue}
+use Rattle.std.specs.Prelude.{◌≡◌, ◌⊎◌, ℕ, ◌+◌, ◌<◌, ◌++◌, false, List, [], ◌∷◌, length, take, slice_index_or, IsTrue}
 use Rattle.dream_words.specs.declared.machine.Name.{Name}
 use Rattle.run_parts.specs.Steps.{Next, Halt, Jam}
 use Rattle.run_parts.specs.World.{World, Names}
@@ -59,3 +59,8 @@ pub record Sees (s : Stmt) (seen after : NameSet) : Type 0 where
 abbrev pub Takes : Stmt → List Stmt → List Delayed → List Stmt → List Delayed → Type 0
 Takes s new p new' p' = (before seen after : NameSet) (old : List Stmt) → IsTrue (is_flow_stmt s) → Sees s seen after
     → Follows before seen old new p → Follows before after (old ++ s ∷ []) new' p'
+
+-- What follows the first i statements of a list, whatever is seen before and after each.
+abbrev pub FollowsFirst : List Stmt → ℕ → List Stmt → List Delayed → Type 0
+FollowsFirst all i new p = (sees : ℕ → NameSet) → ((k : ℕ) (s : Stmt) → k < length all → s ≡ slice_index_or all k s → Sees s (sees k) (sees (k + 1)))
+    → IsTrue (are_flow_stmts (take i all)) → Follows (sees 0) (sees i) (take i all) new p

@@ -3,3 +3,4 @@ pub mod Placed
 pub mod Follows
 pub mod Fits
 pub mod Folds
+pub mod Ends

@@ -6,8 +6,7 @@ ghost use Rattle.expr_fold.specs.Delayed.{is_delayed, none_reads, without, are_f
 ghost use Rattle.expr_fold.specs.Follows.{Waits, Takes};
 
 use crate::delayed::Delayed;
-use crate::names;
-use crate::placed;
+use crate::{names, placed};
 use dream_words::{Name, Width};
 use micro_ir::{Expr, Stmt};
 use sqlite_items::Items;

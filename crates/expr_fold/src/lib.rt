@@ -3,7 +3,13 @@
 //! Promised is a flow that keeps the given one, with the same loads, stores, calls and targets.
 #![tactic(auto)]
 
+mod blocks;
 mod delayed;
+mod flows;
 mod folding;
 mod names;
 mod placed;
+mod policy;
+mod uses;
+
+pub use flows::fold;

@@ -59,11 +59,7 @@ pub(crate) fn word(alloc: Global, delayed: &[Delayed], e: &CExpr) -> Result<CExp
 }
 
 #[cycle(placed)]
-fn boxed(
-    alloc: Global,
-    delayed: &[Delayed],
-    e: &Boxed<CExpr>,
-) -> Result<Boxed<CExpr>, AllocError>
+fn boxed(alloc: Global, delayed: &[Delayed], e: &Boxed<CExpr>) -> Result<Boxed<CExpr>, AllocError>
     ensures { IfOk result (λ r. r ≡ placed_word delayed.now e.now) }
 {
     let e = word(alloc, delayed, e.get())?;
