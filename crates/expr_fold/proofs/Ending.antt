@@ -1,5 +1,5 @@
 -- An end with delayed words in place leads where the end does.
-use Rattle.std.proofs.Common.{◌≡◌, ◌⊎◌, inl, inr, ℕ, Bool, true, false, cond, nat_eq, ◌&&◌, ◌||◌, List, [], ◌∷◌, ◌++◌, Option, Some, None, map, refl, sym, ap, ◌∙◌, subst}
+use Rattle.std.proofs.Common.{◌≡◌, ◌⊎◌, inl, inr, ℕ, Bool, true, false, cond, nat_eq, not, ◌&&◌, ◌||◌, List, [], ◌∷◌, ◌++◌, length, arith, Option, Some, None, map, refl, sym, ap, ◌∙◌, subst}
 use Rattle.std.specs.Prelude.{IsTrue, Contains}
 use Rattle.dream_words.specs.declared.machine.Name.{Name}
 use Rattle.dream_words.specs.declared.outcome.Outcome.TheVariants as outcome
@@ -15,17 +15,20 @@ use Rattle.micro_ir.specs.declared.flow.End.{End as BlockEnd}
 use Rattle.micro_ir.specs.declared.flow.End.TheVariants as end
 use Rattle.micro_ir.specs.Checked.{nodes_of}
 use Rattle.micro_ir.specs.Run.{branch, first_case, by_value, left_by, end_leads}
-use Rattle.flow_passes.specs.Uses.{NameSet, is_register, is_flag, word_reads, cond_reads, end_reads}
+use Rattle.flow_passes.specs.Uses.{NameSet, same_name, is_register, is_flag, word_reads, cond_reads, end_reads}
 use Rattle.flow_passes.specs.Alike.{Alike, DoesAlike, ArrivesAlike}
 use Rattle.flow_passes.specs.Laws.{Within, SameNames}
 use Rattle.flow_passes.proofs.Names.{or_left, or_right, same_regs, alike_by}
 use Rattle.flow_passes.proofs.Statements.{call_alike}
-use Rattle.std.proofs.lemmas.List.{Contains-append_left, Contains-append_right, Contains-push}
+use Rattle.std.proofs.lemmas.List.Elements.{Contains-append_left, Contains-append_right, Contains-push}
 use Rattle.expr_fold.specs.declared.delayed.Delayed.{Delayed}
 use Rattle.expr_fold.specs.Delayed.{is_delayed}
 use Rattle.expr_fold.specs.Placed.{placed_word, placed_cond, placed_end}
 use Rattle.expr_fold.specs.Follows.{Lags, Behind}
-use Rattle.expr_fold.specs.Ends.{EndsWell}
+use Rattle.expr_fold.specs.Ends.{EndsWell, no_register, may_end}
+use Rattle.expr_fold.specs.Folds.{everything}
+use Rattle.expr_fold.proofs.Named.{number_same, same_true, true_or_false, or_false, not_true, not_both}
+use Rattle.micro_ir.proofs.Values.{both_true}
 use Rattle.expr_fold.proofs.Placing.{word_placed, cond_placed}
 use Rattle.expr_fold.proofs.Doing.{behind_names, value_lags}
 
@@ -91,3 +94,41 @@ leads_names live seen p (end.Leave a) w v g l =
 
 pub end_behind : (live : ℕ → NameSet) (seen : NameSet) (p : List Delayed) (e : BlockEnd) (w u : World) → EndsWell live seen p e → Behind seen p w u → ArrivesAlike live (end_leads e w) (end_leads (placed_end p e) u)
 end_behind live seen p e w u g b = subst (λ x. ArrivesAlike live (end_leads e w) (end_leads (placed_end p e) x)) (sym (behind_names seen p w u b)) (leads_names live seen p e w u.names g b.names)
+
+-- ---- where everything is seen
+
+empty_of : (p : List Delayed) → length p ≡ 0 → p ≡ []
+empty_of [] e = refl
+empty_of (x ∷ xs) e = absurd (omega (arith, e))
+
+register_apart : (m n : Name) → is_register m ≡ false → IsTrue (is_register n) → (same_name m n ≡ true) ⊎ (same_name m n ≡ false) → same_name m n ≡ false
+register_apart m n f t (inl e) = absurd (not_both (is_register n) t (ap is_register (sym (same_true m n e)) ∙ f))
+register_apart m n f t (inr e) = e
+
+registers_delayed : (p : List Delayed) (n : Name) → IsTrue (no_register p) → IsTrue (is_register n) → is_delayed p n ≡ false
+registers_delayed [] n h t = refl
+registers_delayed (d ∷ ds) n h t =
+    let k = both_true (not (is_register d.name)) (no_register ds) h in
+    or_false (same_name d.name n) (is_delayed ds n) (register_apart d.name n (not_true (is_register d.name) k.0) t (true_or_false (same_name d.name n))) (registers_delayed ds n k.1 t)
+
+none_well : (p : List Delayed) (e : BlockEnd) → IsTrue (nat_eq (length p) 0) → EndsWell (λ k. everything) everything p e
+none_well p e h =
+    let none = empty_of p (number_same (length p) 0 h) in
+    record { reads = λ n i. refl; targets = λ k c n i. (refl, ap (λ q. is_delayed q n) none); registers = λ z n i. ap (λ q. is_delayed q n) none }
+
+leaving_well : (p : List Delayed) (e : BlockEnd) → nodes_of e ≡ [] → IsTrue (no_register p) → EndsWell (λ k. everything) everything p e
+leaving_well p e none h = record {
+  reads = λ n i. refl;
+  targets = λ k c n i. absurd (nowhere k (subst (λ q. Contains q k) none c));
+  registers = λ z n i. registers_delayed p n h i;
+}
+  where
+    nowhere : (k : ℕ) → Contains [] k → ⊥
+    nowhere k c = omega (arith, c.1)
+
+pub ends_well : (p : List Delayed) (e : BlockEnd) → IsTrue (may_end e p) → EndsWell (λ k. everything) everything p e
+ends_well p (end.Go a) h = none_well p (end.Go a) h
+ends_well p (end.Branch t a b) h = none_well p (end.Branch t a b) h
+ends_well p (end.Switch a cases) h = none_well p (end.Switch a cases) h
+ends_well p end.Return h = leaving_well p end.Return refl h
+ends_well p (end.Leave a) h = leaving_well p (end.Leave a) refl h

@@ -8,7 +8,8 @@ use Rattle.dream_words.specs.declared.outcome.Answer.{Answer}
 use Rattle.micro_ir.specs.Rule.{is_flow_target}
 use Rattle.flow_passes.specs.Uses.{same_name, is_register, is_flag}
 
-number_same : (a b : ℕ) → nat_eq a b ≡ true → a ≡ b
+-- numbers that are equal by their test
+pub number_same : (a b : ℕ) → nat_eq a b ≡ true → a ≡ b
 number_same a b e = search (rules, arith, e)
 
 number_turned : (a b : ℕ) → nat_eq a b ≡ nat_eq b a

@@ -1,5 +1,5 @@
 -- What an end needs to have delayed words in place.
-use Rattle.std.specs.Prelude.{◌≡◌, ℕ, Bool, true, false, not, ◌&&◌, List, [], ◌∷◌, Contains, IsTrue}
+use Rattle.std.specs.Prelude.{length, nat_eq, if◌then◌else◌, ◌≡◌, ℕ, Bool, true, false, not, ◌&&◌, List, [], ◌∷◌, Contains, IsTrue}
 use Rattle.dream_words.specs.declared.machine.Name.{Name}
 use Rattle.micro_ir.specs.declared.flow.End.{End as BlockEnd}
 use Rattle.micro_ir.specs.declared.flow.End.TheVariants as end
@@ -37,3 +37,7 @@ leaves_of (end.Branch t a b) = false
 leaves_of (end.Switch e cases) = false
 leaves_of end.Return = true
 leaves_of (end.Leave e) = true
+
+-- what is delayed may be dropped at an end, where everything is seen after it
+abbrev pub may_end : BlockEnd → List Delayed → Bool
+may_end e p = if leaves_of e then no_register p else nat_eq (length p) 0

@@ -4,7 +4,7 @@ ghost use Rattle.std.specs.Prelude.{◌≡◌, ℕ, [], length, true, IsTrue, If
 ghost use Rattle.micro_ir.specs.Rule.{is_flow_block, are_flow_blocks};
 ghost use Rattle.expr_fold.specs.Placed.{placed_end};
 ghost use Rattle.expr_fold.specs.Follows.{FollowsFirst};
-ghost use Rattle.expr_fold.specs.Ends.{EndsWell, end_fits, no_register, leaves_of};
+ghost use Rattle.expr_fold.specs.Ends.{end_fits, no_register, leaves_of, may_end};
 ghost use Rattle.expr_fold.specs.Folds.{everything, FoldsBlock, FoldsBlocks};
 
 use crate::delayed::Delayed;
@@ -83,13 +83,13 @@ fn leaves(e: &End) -> bool
 }
 
 /// What is delayed may be dropped at an end.
-fn ends_well(delayed: &[Delayed], e: &End) -> bool
-    ensures { IsTrue result → EndsWell (λ k. everything) everything delayed.now e.now }
+fn may_end(delayed: &[Delayed], e: &End) -> bool
+    ensures { result ≡ may_end e.now delayed.now }
 {
     if leaves(e) {
         has_no_register(delayed)
     } else {
-        delayed.is_empty()
+        delayed.len() == 0
     }
 }
 
@@ -107,7 +107,7 @@ fn block(alloc: Global, b: &Block) -> Result<Option<Block>, AllocError>
     if !end_fits(&end) {
         return Ok(None);
     }
-    if !ends_well(&folding.delayed, &b.end) {
+    if !may_end(&folding.delayed, &b.end) {
         return Ok(None);
     }
     Ok(Some(Block {

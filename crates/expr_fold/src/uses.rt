@@ -6,7 +6,7 @@ use dream_words::Name;
 use micro_ir::Stmt;
 
 /// How many statements are looked at.
-const NEAR: usize = 200;
+const NEAR: u32 = 200;
 
 /// How many parts a Word has.
 #[cycle(size)]
@@ -96,17 +96,14 @@ fn sets(s: &Stmt, n: Name) -> bool {
 
 /// How often the next statements read a name, before one of them sets it.
 pub(crate) fn reads_ahead(stmts: &[Stmt], n: Name) -> u32 {
-    let near = if stmts.len() > NEAR {
-        &stmts[..NEAR]
-    } else {
-        stmts
-    };
+    let mut left = NEAR;
     let mut reads: u32 = 0;
-    for s in near {
+    for s in stmts {
         reads = reads.saturating_add(stmt_count(s, n));
-        if reads > 1 || sets(s, n) {
+        if left == 0 || reads > 1 || sets(s, n) {
             return reads;
         }
+        left -= 1;
     }
     reads
 }
