@@ -1,7 +1,12 @@
 pub mod Induct
 pub mod Layers
+pub mod Nested
 pub mod Conjuncts
 pub mod Excluding
 pub mod Simplest
+pub mod Shallow
 pub mod Factoring
 pub mod Guarding
+pub mod Placing
+pub mod Along
+pub mod Ordered

@@ -6,9 +6,11 @@ use Rattle.cond_terms.specs.declared.term.Term as made
 use Rattle.cond_terms.specs.declared.term.Term.{Term, Term-F, roll-Term}
 use Rattle.cond_terms.specs.declared.term.Term.TheVariants as term
 use Rattle.cond_terms.specs.Terms.{Valuation, lit_truth, term_truth, literals}
+use Rattle.cond_terms.specs.Nesting.{nesting}
 use Rattle.cond_terms.specs.Simple.{constant, turned_at, turned, AreUnlike, IsInner, literal, negated, both, either, IsSimple, told, joint, IsJoined, IsSimplified}
 use Rattle.cond_terms.proofs.Induct.{TermCases, every_term}
 use Rattle.cond_terms.proofs.Layers.{truth_layer, truth_true, truth_false, truth_lit, truth_not, truth_and, truth_or, literals_true, literals_false, literals_lit, literals_not, literals_and, literals_or}
+use Rattle.cond_terms.proofs.Nested.{nesting_true, nesting_false, nesting_and, nesting_or}
 
 -- constants
 truth_constant : (b : Bool) (v : Valuation) → term_truth (constant b) v ≡ b
@@ -18,6 +20,10 @@ truth_constant false v = truth_false v
 literals_constant : (b : Bool) → literals (constant b) ≡ 0
 literals_constant true = literals_true
 literals_constant false = literals_false
+
+nesting_constant : (b : Bool) → nesting (constant b) ≡ 0
+nesting_constant true = nesting_true
+nesting_constant false = nesting_false
 
 constant_simple : (b : Bool) → IsSimple (constant b)
 constant_simple true = inl refl
@@ -122,17 +128,20 @@ first_serves all a b (inl e) = record {
   same_truth = λ v. let x : term_truth a v ≡ not all = ap (λ t. term_truth t v) e ∙ truth_constant (not all) v in
       x ∙ sym (decides_first all (term_truth b v)) ∙ ap (λ z. joint all z (term_truth b v)) (sym x);
   no_larger = omega arith;
+  no_deeper = omega arith;
   simple = λ p q. p;
 }
 first_serves all a b (inr (inl e)) = record {
   same_truth = λ v. let y : term_truth b v ≡ all = ap (λ t. term_truth t v) e ∙ truth_constant all v in
       sym (adds_nothing_second all (term_truth a v)) ∙ ap (joint all (term_truth a v)) (sym y);
   no_larger = omega arith;
+  no_deeper = omega arith;
   simple = λ p q. p;
 }
 first_serves all a b (inr (inr e)) = record {
   same_truth = λ v. sym (joint_same all (term_truth a v)) ∙ ap (λ t. joint all (term_truth a v) (term_truth t v)) e;
   no_larger = omega arith;
+  no_deeper = omega arith;
   simple = λ p q. p;
 }
 
@@ -141,12 +150,14 @@ second_serves all a b (inl e) = record {
   same_truth = λ v. let x : term_truth a v ≡ all = ap (λ t. term_truth t v) e ∙ truth_constant all v in
       sym (adds_nothing_first all (term_truth b v)) ∙ ap (λ z. joint all z (term_truth b v)) (sym x);
   no_larger = omega arith;
+  no_deeper = omega arith;
   simple = λ p q. q;
 }
 second_serves all a b (inr e) = record {
   same_truth = λ v. let y : term_truth b v ≡ not all = ap (λ t. term_truth t v) e ∙ truth_constant (not all) v in
       y ∙ sym (decides_second all (term_truth a v)) ∙ ap (joint all (term_truth a v)) (sym y);
   no_larger = omega arith;
+  no_deeper = omega arith;
   simple = λ p q. q;
 }
 
@@ -155,6 +166,7 @@ pub opposite : (all : Bool) (a b made : Term) → b ≡ turned a false → made 
 opposite all a b made e f = record {
   same_truth = λ v. ap (λ t. term_truth t v) f ∙ truth_constant (not all) v ∙ sym (joint_opposite all (term_truth a v)) ∙ ap (joint all (term_truth a v)) (sym (ap (λ t. term_truth t v) e ∙ turned_truth a false v));
   no_larger = omega (arith, ap literals f, literals_constant (not all));
+  no_deeper = omega (arith, ap nesting f, nesting_constant (not all));
   simple = λ p q. subst IsSimple (sym f) (constant_simple (not all));
 }
 
@@ -196,6 +208,7 @@ pub stands_as_and : (all : Bool) (a b made : Term) → StandTogether all a b →
 stands_as_and all a b made s e f = record {
   same_truth = λ v. ap (λ t. term_truth t v) f ∙ truth_and a b v ∙ ap (λ h. joint h (term_truth a v) (term_truth b v)) (sym e);
   no_larger = omega (arith, ap literals f, literals_and a b);
+  no_deeper = omega (arith, ap nesting f, nesting_and a b);
   simple = λ p q. inr (inr (both a b f (unlike all a b s) (inner_first all a b s p) (inner_second all a b s q)));
 }
 
@@ -203,6 +216,7 @@ pub stands_as_or : (all : Bool) (a b made : Term) → StandTogether all a b → 
 stands_as_or all a b made s e f = record {
   same_truth = λ v. ap (λ t. term_truth t v) f ∙ truth_or a b v ∙ ap (λ h. joint h (term_truth a v) (term_truth b v)) (sym e);
   no_larger = omega (arith, ap literals f, literals_or a b);
+  no_deeper = omega (arith, ap nesting f, nesting_or a b);
   simple = λ p q. inr (inr (either a b f (unlike all a b s) (inner_first all a b s p) (inner_second all a b s q)));
 }
 

@@ -1,5 +1,5 @@
 -- The guards of the nodes of a graph without cycles.
-use Rattle.std.specs.Prelude.{◌≡◌, ◌≢◌, ◌↔◌, ℕ, ◌<◌, true, List, length, Contains, slice_get, Some}
+use Rattle.std.specs.Prelude.{◌≡◌, ◌≢◌, ◌↔◌, ℕ, ◌+◌, ◌<◌, ◌≤◌, true, List, [], ◌∷◌, length, Contains, slice_get, Some, All}
 use Rattle.graph_order.specs.Graph.{Digraph, HasEdge, IsReached}
 use Rattle.graph_order.specs.Order.{IsTopologicalOrder}
 use Rattle.cond_terms.specs.declared.term.Lit.TheVariants as lit
@@ -8,7 +8,8 @@ use Rattle.cond_terms.specs.declared.term.Term.TheVariants as term
 use Rattle.cond_terms.specs.declared.guards.Edge.{Edge}
 use Rattle.cond_terms.specs.declared.guards.Guard.{Guard}
 use Rattle.cond_terms.specs.declared.guards.Guard.TheVariants as guard
-use Rattle.cond_terms.specs.Terms.{Valuation, term_truth}
+use Rattle.cond_terms.specs.Terms.{Valuation, term_truth, literals}
+use Rattle.cond_terms.specs.Nesting.{nesting, IsPlain}
 
 -- the term of a guard
 abbrev pub term_of : Guard → Term
@@ -62,3 +63,35 @@ abbrev pub GuardsTell : Type 0
 GuardsTell = (g : Digraph) (edges : List Edge) (order : List ℕ) (guards : List Guard) → IsTopologicalOrder g order → AreEdgesOf g edges
     → AreGuards g.entry edges order guards → (k n : ℕ) (its : Guard) (v : Valuation) → IsGuardAt order guards k n its
     → NamesTell g.entry edges order guards k v → ((term_truth (term_of its) v ≡ true) ↔ IsTaken g.entry edges v n)
+
+-- the name of each guard before place k is set: its variable isn't 0 exactly where its term is true
+abbrev pub NamesSet : List Guard → ℕ → Valuation → Type 0
+NamesSet guards k v = (j x : ℕ) (t : Term) → j < k → slice_get guards j ≡ Some (guard.Named x t) → term_truth (term.Lit (lit.Bool x)) v ≡ term_truth t v
+
+-- where the names of the earlier guards are set, a guard's term is true exactly where its node is taken
+abbrev pub TellTaken : ℕ → List Edge → List ℕ → List Guard → Type 0
+TellTaken entry edges order guards =
+    (k n : ℕ) (its : Guard) (v : Valuation) → IsGuardAt order guards k n its → NamesSet guards k v → ((term_truth (term_of its) v ≡ true) ↔ IsTaken entry edges v n)
+
+-- how many names a guard has
+abbrev pub names_of : Guard → ℕ
+names_of (guard.Term t) = 0
+names_of (guard.Named x t) = 1
+
+-- a guard has this name where its term has more than 64 literals, and else none
+abbrev pub IsNamedAs : ℕ → Guard → Type 0
+IsNamedAs name (guard.Term t) = literals t ≤ 64
+IsNamedAs name (guard.Named x t) = (64 < literals t) × (x ≡ name)
+
+-- each guard has a name exactly where its term has more than 64 literals, and the names count up
+abbrev pub AreNamed : ℕ → List Guard → Type 0
+AreNamed next [] = Unit
+AreNamed next (its ∷ rest) = IsNamedAs next its × AreNamed (next + names_of its) rest
+
+-- each edge's term is True, a literal or the Not of a literal
+abbrev pub ArePlain : List Edge → Type 0
+ArePlain edges = All (λ e. IsPlain e.term) edges
+
+-- no guard has more than so many And, Or and Not nested in one another
+abbrev pub AreShallow : ℕ → List Guard → Type 0
+AreShallow most guards = All (λ its. nesting (term_of its) ≤ most) guards

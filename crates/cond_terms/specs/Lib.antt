@@ -1,6 +1,8 @@
 pub mod Terms
+pub mod Nesting
 pub mod Exclusion
 pub mod Simple
 pub mod Factored
 pub mod Guards
+pub mod Reaching
 pub mod Laws

@@ -1,9 +1,10 @@
 -- Terms that are as simple as their parts allow.
-use Rattle.std.specs.Prelude.{◌≡◌, ◌≢◌, ◌⊎◌, ◌+◌, ◌≤◌, Bool, true, false, not, ◌&&◌, ◌||◌}
+use Rattle.std.specs.Prelude.{◌≡◌, ◌≢◌, ◌⊎◌, ◌+◌, ◌≤◌, max, Bool, true, false, not, ◌&&◌, ◌||◌}
 use Rattle.cond_terms.specs.declared.term.Lit.{Lit}
 use Rattle.cond_terms.specs.declared.term.Term.{Term, Term-F, fold-Term}
 use Rattle.cond_terms.specs.declared.term.Term.TheVariants as term
 use Rattle.cond_terms.specs.Terms.{Valuation, term_truth, literals}
+use Rattle.cond_terms.specs.Nesting.{nesting}
 
 -- True or False
 abbrev pub constant : Bool → Term
@@ -55,6 +56,7 @@ joint false a b = a || b
 pub record IsJoined (all : Bool) (a b made : Term) : Type 0 where
   pub same_truth : (v : Valuation) → term_truth made v ≡ joint all (term_truth a v) (term_truth b v)
   pub no_larger : literals made ≤ literals a + literals b
+  pub no_deeper : nesting made ≤ max (nesting a) (nesting b) + 1
   pub simple : IsSimple a → IsSimple b → IsSimple made
 
 -- made is the term, or where false is asked for its negation, made simple

@@ -70,7 +70,7 @@ fn second_serves(all: bool, a: &Term, b: &Term) -> bool
 }
 
 /// The And of two parts, or where not `all` their Or, made simple.
-fn joined(alloc: Global, all: bool, a: Term, b: Term) -> Result<Term, AllocError>
+pub(crate) fn joined(alloc: Global, all: bool, a: Term, b: Term) -> Result<Term, AllocError>
     ensures { IfOk result (λ made. IsJoined all a b made) }
 {
     if first_serves(all, &a, &b) {

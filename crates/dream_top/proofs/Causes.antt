@@ -16,6 +16,7 @@ use Rattle.c_syntax.specs.declared.syntax.CFun.{CFun}
 use Rattle.c_syntax.specs.Text.{canonical_text}
 use Rattle.c_syntax.specs.Stands.{StandsFor, OneFunction}
 use Rattle.c_read.specs.Refusals.{IsRefusedAt}
+use Rattle.c_read.specs.Answers.{OnePlace}
 use Rattle.flow_graph.specs.Place.{NamedPlace, NamedAfter, IsLeastPlace, HasNoPlace}
 use Rattle.dream_engine.specs.Agreement.{IsDecompiled}
 use Rattle.run_lines.specs.StartWords.{given_by}
@@ -334,21 +335,23 @@ tidy_done one i o path bytes f NoFunction at small stands quiet a = absurd a.0
 tidy_done one i o path bytes f (Outside p) at small stands quiet a = absurd a.0
 tidy_done one i o path bytes f Usage at small stands quiet a = absurd a.0
 
-tidy_refused : (i : Reading) (o : Writing) (path bytes : List ℕ) (s : Status) → HoldsAt i.held path bytes → length bytes ≤ limit → ((f : CFun) → StandsFor bytes f → ⊥)
-    → (Rose i.faults i.faults_now → ⊥) → AnswersTidy s i o path → ((at : ℕ) × IsRefusedAt bytes at × (s ≡ NotProfile at)) ⊎ (s ≡ NoMemory)
-tidy_refused i o path bytes (NotProfile n) at small none quiet a =
-    inl (n, subst (λ t. IsRefusedAt t n) (sym (taken_are i path bytes a.0.bytes at a.0.takes)) a.0.refused, refl)
-tidy_refused i o path bytes NoMemory at small none quiet a = inr refl
-tidy_refused i o path bytes Done at small none quiet a =
+tidy_refused : OnePlace → (i : Reading) (o : Writing) (path bytes : List ℕ) (s : Status) → HoldsAt i.held path bytes → length bytes ≤ limit → ((f : CFun) → StandsFor bytes f → ⊥)
+    → (Rose i.faults i.faults_now → ⊥) → AnswersTidy s i o path
+    → ((at : ℕ) × IsRefusedAt bytes at × ((k : ℕ) → IsRefusedAt bytes k → k ≡ at) × (s ≡ NotProfile at)) ⊎ (s ≡ NoMemory)
+tidy_refused one i o path bytes (NotProfile n) at small none quiet a =
+    let refused : IsRefusedAt bytes n = subst (λ t. IsRefusedAt t n) (sym (taken_are i path bytes a.0.bytes at a.0.takes)) a.0.refused in
+    inl (n, refused, (λ k other. one bytes k n other refused), refl)
+tidy_refused one i o path bytes NoMemory at small none quiet a = inr refl
+tidy_refused one i o path bytes Done at small none quiet a =
     absurd (none a.1.f (subst (λ t. StandsFor t a.1.f) (sym (taken_are i path bytes a.1.bytes at a.1.takes)) a.1.stands))
-tidy_refused i o path bytes WriteFault at small none quiet a =
+tidy_refused one i o path bytes WriteFault at small none quiet a =
     absurd (none a.1.f (subst (λ t. StandsFor t a.1.f) (sym (taken_are i path bytes a.1.bytes at a.1.takes)) a.1.stands))
-tidy_refused i o path bytes ReadFault at small none quiet a = absurd (no_read_fault i path bytes at quiet a.0)
-tidy_refused i o path bytes FileTooLarge at small none quiet a = absurd (too_long i path bytes at small a.0)
-tidy_refused i o path bytes (NotElf g) at small none quiet a = absurd a.0
-tidy_refused i o path bytes NoFunction at small none quiet a = absurd a.0
-tidy_refused i o path bytes (Outside p) at small none quiet a = absurd a.0
-tidy_refused i o path bytes Usage at small none quiet a = absurd a.0
+tidy_refused one i o path bytes ReadFault at small none quiet a = absurd (no_read_fault i path bytes at quiet a.0)
+tidy_refused one i o path bytes FileTooLarge at small none quiet a = absurd (too_long i path bytes at small a.0)
+tidy_refused one i o path bytes (NotElf g) at small none quiet a = absurd a.0
+tidy_refused one i o path bytes NoFunction at small none quiet a = absurd a.0
+tidy_refused one i o path bytes (Outside p) at small none quiet a = absurd a.0
+tidy_refused one i o path bytes Usage at small none quiet a = absurd a.0
 
 -- ---- texts that are known before
 
@@ -366,8 +369,8 @@ made_written P NoMemory o w = inr (inl refl)
 made_written P WriteFault o w = inr (inr (refl, w.2.rose))
 made_written P s o w = absurd w.0
 
-pub each_cause_has_its_answer : OneFunction → EachCauseHasItsAnswer
-each_cause_has_its_answer one_function = record {
+pub each_cause_has_its_answer : OneFunction → OnePlace → EachCauseHasItsAnswer
+each_cause_has_its_answer one_function one_refusal = record {
   usage = λ i o s a. a.0;
   unheld = λ i o c path s un e a. by_path ((s ≡ ReadFault) ⊎ (s ≡ NoMemory)) c s i o path e a
       (λ P f same b. fault_or_memory P i o f s (subst (λ p. IsUnheld i.held p) (sym same) un) b) (λ b. tidy_unheld i o path s un b);
@@ -387,7 +390,7 @@ each_cause_has_its_answer one_function = record {
       by_command ((s ≡ Outside p) ⊎ (s ≡ NoMemory)) c s i o f accepted.function (subst (λ asked. Answers s i o asked) accepted.command a)
       (λ P none b. outside_or_memory P none i o f bytes m r p s accepted.held accepted.small accepted.found named quiet b);
   tidy = λ words i o path bytes f s asked at small stands quiet a. tidy_done one_function i o path bytes f s at small stands quiet (subst (λ c. Answers s i o c) asked a);
-  not_profile = λ words i o path bytes s asked at small none quiet a. tidy_refused i o path bytes s at small none quiet (subst (λ c. Answers s i o c) asked a);
+  not_profile = λ words i o path bytes s asked at small none quiet a. tidy_refused one_refusal i o path bytes s at small none quiet (subst (λ c. Answers s i o c) asked a);
   drill = λ words i o n s asked a. made_written (IsDrillLine n) s o (subst (λ c. Answers s i o c) asked a).writes;
   prelude = λ i o s a. written s o header_text a.writes;
   prelude_done = λ i o s quiet a. elim (written s o header_text a.writes) [ inl done ↦ done.0 | inr stopped ↦ absurd (quiet stopped.1.rose) ];

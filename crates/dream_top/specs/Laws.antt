@@ -74,10 +74,10 @@ pub record EachCauseHasItsAnswer : Type 0 where
   pub tidy : (words : List (List ℕ)) (i : Reading) (o : Writing) (path bytes : List ℕ) (f : CFun) (s : Status) → command_of words ≡ Some (Tidy path)
       → HoldsAt i.held path bytes → length bytes ≤ limit → StandsFor bytes f → HasNoFault i o → Answers s i o (command_of words)
       → ((s ≡ Done) × Appends o.taken o.taken_now (canonical_text f)) ⊎ (s ≡ NoMemory)
-  -- a text that stands for no function: there is a place at which it is refused, and it is told
+  -- a text that stands for no function: there is just one place at which it is refused, and it is told
   pub not_profile : (words : List (List ℕ)) (i : Reading) (o : Writing) (path bytes : List ℕ) (s : Status) → command_of words ≡ Some (Tidy path)
       → HoldsAt i.held path bytes → length bytes ≤ limit → ((f : CFun) → StandsFor bytes f → ⊥) → (Rose i.faults i.faults_now → ⊥) → Answers s i o (command_of words)
-      → ((at : ℕ) × IsRefusedAt bytes at × (s ≡ NotProfile at)) ⊎ (s ≡ NoMemory)
+      → ((at : ℕ) × IsRefusedAt bytes at × ((k : ℕ) → IsRefusedAt bytes k → k ≡ at) × (s ≡ NotProfile at)) ⊎ (s ≡ NoMemory)
   -- a drill that is asked for: done, unless memory runs out or the count of faults of the output rises
   pub drill : (words : List (List ℕ)) (i : Reading) (o : Writing) (n : ℕ) (s : Status) → command_of words ≡ Some (Drill n) → Answers s i o (command_of words)
       → (s ≡ Done) ⊎ ((s ≡ NoMemory) ⊎ ((s ≡ WriteFault) × Rose o.faults o.faults_now))

@@ -2,6 +2,7 @@
 
 ghost use Rattle.dream_top.specs.Laws.{NoRefusalWithoutCause, EachCauseHasItsAnswer};
 
+use c_read::one_place;
 use c_syntax::one_function;
 
 /// A command whose file is accepted and whose range has no place outside the profile is done, unless a count of faults
@@ -17,4 +18,5 @@ pub fn each_cause_has_its_answer()
     ensures { EachCauseHasItsAnswer }
 {
     one_function();
+    one_place();
 }

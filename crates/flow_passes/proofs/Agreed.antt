@@ -1,6 +1,6 @@
 -- What a meaning agrees with, one that goes along with it agrees with. So it is with a flow that keeps the runs of another,
 -- or that joins them.
-use Rattle.std.proofs.Common.{◌≡◌, ◌⊎◌, inl, inr, ℕ, ◌+◌, ◌-◌, ◌≤◌, List, [], refl, sym, ap, ◌∙◌, subst, arith}
+use Rattle.std.proofs.Common.{◌≡◌, ◌⊎◌, inl, inr, ℕ, ◌+◌, ◌-◌, ◌≤◌, List, refl, sym, ◌∙◌, subst, arith}
 use Rattle.std.proofs.Math.Path.{fun_ext}
 use Rattle.dream_words.specs.declared.outcome.Start.{Start}
 use Rattle.dream_words.specs.declared.outcome.Answer.{Answer}
@@ -11,6 +11,7 @@ use Rattle.dream_words.specs.Same.{Same, IsEnded, calls_of, AreFront}
 use Rattle.dream_words.specs.Agreement.{Agreeing, Strays}
 use Rattle.dream_words.proofs.Outcomes.{Same-IsEnded, AreFront_refl, AreFront_trans, AreFront-append}
 use Rattle.run_parts.specs.Laws.{Begins, OutcomeShows}
+use Rattle.run_parts.proofs.Runs.{begins_self}
 use Rattle.run_parts.specs.Steps.{To, End, Nowhere}
 use Rattle.run_parts.specs.World.{start_world}
 use Rattle.c_syntax.specs.RunLaws.{Continues}
@@ -139,7 +140,7 @@ module _ (f g : Flow) (start : Start) (answers : List Answer) (never : NeverStuc
         (k, subst (λ o. Begins c (calls_of o)) (sym j.2) (begun c (flow_run f start answers j.0) shows (flow_shown f start answers j.0) (never j.0)));
     calls_only = λ m c e.
         let j = joins m in
-        (j.0, subst (λ o. Begins c (calls_of o)) (j.2) (subst (λ o. Begins c (calls_of o)) (sym e) ([], refl)));
+        (j.0, subst (λ o. Begins c (calls_of o)) (j.2) (subst (λ o. Begins c (calls_of o)) (sym e) (begins_self c)));
     never_stuck = λ k e. let j = joins k in never j.0 (sym j.2 ∙ e);
   }
 

@@ -1,24 +1,21 @@
 -- An end leads alike from worlds that are alike in what it reads, and in what is seen where it leads.
-use Rattle.std.proofs.Common.{◌≡◌, ◌⊎◌, inl, inr, ℕ, Bool, true, false, cond, nat_eq, ◌||◌, List, [], ◌∷◌, Option, Some, None, map, refl, sym, ap, ◌∙◌, subst}
-use Rattle.std.specs.Prelude.{IsTrue, Contains}
+use Rattle.std.proofs.Common.{◌≡◌, inl, ℕ, Bool, true, false, cond, nat_eq, List, [], ◌∷◌, Option, Some, None, map, refl, sym, ap, ◌∙◌, subst}
+use Rattle.std.specs.Prelude.{Contains}
 use Rattle.std.proofs.lemmas.List.Elements.{Contains-append_left, Contains-append_right, Contains-push}
-use Rattle.dream_words.specs.declared.machine.Name.{Name}
-use Rattle.dream_words.specs.declared.outcome.Outcome.{Outcome}
 use Rattle.dream_words.specs.declared.outcome.Outcome.TheVariants as outcome
-use Rattle.run_parts.specs.Steps.{Next, Halt, Jam, To, End, Nowhere, having}
+use Rattle.run_parts.specs.Steps.{Next, Halt, Jam, To, End, having}
 use Rattle.run_parts.specs.World.{Names, World, regs_in, returned}
-use Rattle.run_parts.specs.Effects.{Doing, calling}
-use Rattle.c_syntax.specs.declared.syntax.CExpr.{CExpr}
-use Rattle.c_syntax.specs.Run.{word_in, holds, does_ext}
+use Rattle.run_parts.specs.Effects.{Doing}
+use Rattle.c_syntax.specs.Run.{word_in, holds}
 use Rattle.micro_ir.specs.declared.flow.Case.{Case}
 use Rattle.micro_ir.specs.declared.flow.End.{End as BlockEnd}
 use Rattle.micro_ir.specs.declared.flow.End.TheVariants as end
 use Rattle.micro_ir.specs.Checked.{nodes_of}
 use Rattle.micro_ir.specs.Run.{branch, first_case, by_value, left_by, end_leads}
-use Rattle.flow_passes.specs.Uses.{NameSet, is_register, is_flag, word_reads, cond_reads, end_reads}
+use Rattle.flow_passes.specs.Uses.{NameSet, is_register, is_flag, word_reads, end_reads}
 use Rattle.flow_passes.specs.Alike.{Alike, DoesAlike, ArrivesAlike}
 use Rattle.flow_passes.specs.Laws.{Within, SameNames, EndsSee}
-use Rattle.flow_passes.proofs.Names.{or_left, or_right, either_of, same_regs, but_names, alike_by}
+use Rattle.flow_passes.proofs.Names.{or_left, or_right, same_regs, but_names, alike_by}
 use Rattle.flow_passes.proofs.Reading.{same_value, same_truth}
 use Rattle.flow_passes.proofs.Statements.{value_seen, call_alike}
 

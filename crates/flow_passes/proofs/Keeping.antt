@@ -1,8 +1,6 @@
 -- What keeps a flow that keeps another keeps that one, and has its stores and calls.
-use Rattle.std.proofs.Common.{◌≡◌, ℕ, zero, suc, ◌+◌, length, List, [], ◌∷◌, Option, Some, None, refl, sym, ap, ◌∙◌, subst, arith}
+use Rattle.std.proofs.Common.{◌≡◌, ℕ, suc, ◌+◌, length, List, [], ◌∷◌, Option, Some, refl, sym, ◌∙◌, subst, arith}
 use Rattle.std.specs.Prelude.{slice_get}
-use Rattle.dream_words.specs.declared.outcome.Outcome.{Outcome}
-use Rattle.dream_words.specs.declared.outcome.Outcome.TheVariants as outcome
 use Rattle.c_syntax.specs.declared.syntax.CExpr.{CExpr}
 use Rattle.c_syntax.specs.declared.syntax.CCond.{CCond}
 use Rattle.micro_ir.specs.declared.flow.Case.{Case}

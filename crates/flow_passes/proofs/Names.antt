@@ -1,15 +1,13 @@
 -- Names, sets of them, and worlds that are alike.
-use Rattle.std.proofs.Common.{◌≡◌, ◌⊎◌, inl, inr, ℕ, ◌+◌, ◌^◌, ◌<◌, Bool, true, false, cond, nat_eq, nat_lt, ◌&&◌, ◌||◌, List, refl, sym, ap, ◌∙◌, subst, rules, arith}
+use Rattle.std.proofs.Common.{◌≡◌, ◌⊎◌, inl, inr, ℕ, Bool, true, false, cond, nat_eq, nat_lt, ◌&&◌, ◌||◌, List, refl, ap, ◌∙◌, rules, arith}
 use Rattle.std.specs.Prelude.{IsTrue}
 use Rattle.dream_words.specs.declared.machine.Name.{Name}
 use Rattle.dream_words.specs.declared.machine.Name.TheVariants as n
-use Rattle.dream_words.specs.declared.machine.Regs.{Regs}
 use Rattle.dream_words.specs.declared.pages.Pages.{Pages}
 use Rattle.dream_words.specs.declared.outcome.Answer.{Answer}
 use Rattle.dream_words.specs.declared.outcome.Call.{Call}
 use Rattle.dream_words.specs.Memory.{Mem}
 use Rattle.run_parts.specs.World.{Names, World, with_name, regs_in, answered}
-use Rattle.run_parts.specs.Effects.{set_word}
 use Rattle.micro_ir.specs.Rule.{is_flow_target}
 use Rattle.flow_passes.specs.Uses.{NameSet, same_name, is_register, is_flag}
 use Rattle.flow_passes.specs.Alike.{Alike}

@@ -1,6 +1,5 @@
 -- The names that a Word reads decide its value, and those of a Cond its truth.
-use Rattle.std.proofs.Common.{◌≡◌, ◌-◌, ◌^◌, Bool, true, false, not, ◌||◌, refl, sym, ap, ◌∙◌, subst, Some}
-use Rattle.std.specs.Prelude.{IsTrue}
+use Rattle.std.proofs.Common.{◌≡◌, ◌-◌, ◌^◌, true, false, not, ◌||◌, refl, sym, ap, ◌∙◌, subst, Some}
 use Rattle.run_parts.specs.World.{Names}
 use Rattle.c_syntax.specs.declared.syntax.CExpr as e
 use Rattle.c_syntax.specs.declared.syntax.CExpr.{CExpr, CExpr-F, roll-CExpr}
@@ -10,9 +9,7 @@ use Rattle.c_syntax.specs.Words.{bin_of, cmp_of, fn1_of, fn2_of, fn3_of}
 use Rattle.c_syntax.specs.Value.{each, both, all_three, picked, Word, Truth, word_of, truth_of, word_at, truth_at}
 use Rattle.c_syntax.proofs.Induct.{WordCases, every_word, every_cond}
 use Rattle.c_syntax.proofs.Layers.{word_of_layer, truth_of_layer}
-use Rattle.dream_words.specs.declared.machine.Name.{Name}
-use Rattle.dream_words.specs.declared.machine.Name.TheVariants as name
-use Rattle.flow_passes.specs.Uses.{NameSet, same_name, word_reads, cond_reads, word_reads_at, cond_reads_at}
+use Rattle.flow_passes.specs.Uses.{NameSet, word_reads, cond_reads, word_reads_at, cond_reads_at}
 use Rattle.flow_passes.specs.Laws.{SameNames, ReadNamesDecide}
 use Rattle.flow_passes.proofs.Names.{or_left, or_right, same_self}
 

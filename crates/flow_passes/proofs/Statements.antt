@@ -1,27 +1,25 @@
 -- A statement does alike from worlds that are alike in what it reads.
-use Rattle.std.proofs.Common.{◌≡◌, ◌⊎◌, inl, inr, ℕ, Bool, true, false, cond, nat_eq, ◌&&◌, ◌||◌, List, [], ◌∷◌, ◌++◌, Option, Some, None, refl, sym, ap, ◌∙◌, subst}
+use Rattle.std.proofs.Common.{◌≡◌, ◌⊎◌, inl, inr, ℕ, Bool, true, false, cond, nat_eq, ◌||◌, List, [], ◌∷◌, ◌++◌, Option, Some, None, refl, sym, subst}
 use Rattle.std.specs.Prelude.{IsTrue}
 use Rattle.dream_words.specs.declared.machine.Name.{Name}
-use Rattle.dream_words.specs.declared.machine.Width.{Width}
 use Rattle.dream_words.specs.declared.outcome.Answer.{Answer}
 use Rattle.dream_words.specs.declared.outcome.Call.{Call}
 use Rattle.dream_words.specs.declared.outcome.Outcome.{Outcome}
 use Rattle.dream_words.specs.declared.outcome.Outcome.TheVariants as outcome
 use Rattle.dream_words.specs.Memory.{load, store, bytes_of}
 use Rattle.dream_words.specs.Pages.{first_bad}
-use Rattle.run_parts.specs.Steps.{Next, Halt, Jam, having}
+use Rattle.run_parts.specs.Steps.{Next, Halt, having}
 use Rattle.run_parts.specs.World.{Names, World, regs_in, answered}
-use Rattle.run_parts.specs.Effects.{Doing, set_word, allowing, answered_by, calling, trapping, storing, loading}
+use Rattle.run_parts.specs.Effects.{Doing, set_word, allowing, answered_by, calling}
 use Rattle.c_syntax.specs.declared.syntax.CExpr.{CExpr}
-use Rattle.c_syntax.specs.Run.{word_in, does_ext}
+use Rattle.c_syntax.specs.Run.{word_in}
 use Rattle.micro_ir.specs.declared.flow.Stmt.{Stmt}
 use Rattle.micro_ir.specs.declared.flow.Stmt.TheVariants as stmt
 use Rattle.micro_ir.specs.Rule.{is_flow_target, is_flow_word, is_flow_stmt}
 use Rattle.micro_ir.specs.Run.{stmt_does}
-use Rattle.micro_ir.specs.World.{IsWorld}
 use Rattle.micro_ir.proofs.Values.{both_true}
 use Rattle.flow_passes.specs.Uses.{NameSet, same_name, is_register, is_flag, word_reads, stmt_reads, stmt_sets}
-use Rattle.flow_passes.specs.Alike.{Alike, DoesAlike}
+use Rattle.flow_passes.specs.Alike.{DoesAlike}
 use Rattle.flow_passes.specs.Laws.{Within, SameNames, StatementsSee}
 use Rattle.flow_passes.proofs.Names.{or_left, or_right, set_same, same_regs, but_names, alike_by, answered_same}
 use Rattle.flow_passes.proofs.Reading.{same_value}

@@ -1,22 +1,18 @@
 -- Blocks that go alike keep the runs.
-use Rattle.std.proofs.Common.{◌≡◌, ◌⊎◌, inl, inr, ℕ, zero, suc, ◌<◌, ◌≤◌, length, List, [], ◌∷◌, Option, Some, None, refl, sym, ap, ◌∙◌, subst, arith, rules}
+use Rattle.std.proofs.Common.{◌≡◌, ℕ, zero, suc, length, List, [], ◌∷◌, Option, Some, None, refl, sym, ap, ◌∙◌, subst, arith}
 use Rattle.std.specs.Prelude.{IsTrue, slice_get}
-use Rattle.dream_words.specs.declared.outcome.Start.{Start}
-use Rattle.dream_words.specs.declared.outcome.Answer.{Answer}
-use Rattle.dream_words.specs.declared.outcome.Outcome.{Outcome}
 use Rattle.dream_words.specs.declared.outcome.Outcome.TheVariants as outcome
 use Rattle.run_parts.specs.Steps.{To, End, Nowhere}
 use Rattle.run_parts.specs.World.{World, start_world}
 use Rattle.micro_ir.specs.declared.flow.Block.{Block}
-use Rattle.micro_ir.specs.declared.flow.Flow.{Flow}
-use Rattle.micro_ir.specs.Rule.{are_flow_blocks, KeepsRule}
-use Rattle.micro_ir.specs.Run.{Arrive, enter, onward, walk, outcome_of, flow_run}
+use Rattle.micro_ir.specs.Rule.{are_flow_blocks}
+use Rattle.micro_ir.specs.Run.{Arrive, enter, onward, walk, outcome_of}
 use Rattle.micro_ir.specs.World.{IsWorld}
 use Rattle.micro_ir.specs.Laws.{ArriveStays}
 use Rattle.micro_ir.proofs.Worlds.{enter_stays, start_is}
 use Rattle.flow_passes.specs.Uses.{NameSet}
 use Rattle.flow_passes.specs.Alike.{Alike, ArrivesAlike, GoAlike}
-use Rattle.flow_passes.specs.Keeps.{InRange, KeepsRuns, entered, then_entered}
+use Rattle.flow_passes.specs.Keeps.{entered, then_entered}
 use Rattle.flow_passes.specs.Laws.{GoingAlikeKeepsRuns}
 use Rattle.flow_passes.proofs.Names.{alike_self}
 

@@ -1,9 +1,9 @@
 //! The header that each text includes.
 
 use crate::calls::{call, files, sink};
-use crate::files::{MOVE, elf};
 use dream_outside::MemSink;
 use dream_top::Status;
+use row_files::{MOVE, elf};
 use std::test::Fail;
 
 // The text of the header, with its line ends as they are written here.

@@ -1,11 +1,11 @@
 //! What is refused, and the notes that tell so.
 
 use crate::calls::{Zeros, call, decompile, files, sink};
-use crate::files::{MOVE, elf, elf_at, elf_with_main};
 use dream_outside::MemSink;
 use dream_top::Status;
 use elf_image::ElfFault;
 use flow_graph::{Cause, Place};
+use row_files::{MOVE, elf, elf_at, elf_with_main};
 use std::alloc::Global;
 use std::test::Fail;
 

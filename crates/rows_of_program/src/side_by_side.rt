@@ -1,9 +1,9 @@
 //! Runs of functions, the machine's beside the C's.
 
 use crate::calls::{decompile, run};
-use crate::files::{THREE, elf, elf_with_table};
 use dream_top::Status;
 use flow_graph::{Cause, Place};
+use row_files::{THREE, elf, elf_with_table};
 use std::test::Fail;
 
 // Functions by their code: what the machine's line tells, and the C's.

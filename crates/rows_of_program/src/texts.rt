@@ -1,12 +1,12 @@
 //! What functions and texts are answered: the C, the header, the line of a drill.
 
 use crate::calls::{Zeros, call, decompile, files, sink, tidy};
-use crate::files::{MOVE, elf, elf_at, elf_with_main};
 use dream_outside::MemSink;
 use dream_top::Status;
 use drill_lines::drill_line;
 use elf_image::Range;
 use generators::make_drill;
+use row_files::{MOVE, elf, elf_at, elf_with_main};
 use std::test::Fail;
 
 // Its text, where it stands at 0x08048100.

@@ -6,6 +6,8 @@
 #[cfg(test)]
 mod forms;
 #[cfg(test)]
+mod guards;
+#[cfg(test)]
 mod parts;
 #[cfg(test)]
 mod printing;

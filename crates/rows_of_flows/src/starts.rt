@@ -1,8 +1,8 @@
 //! Words of a start, starts, and lines of outcomes, each worked out by hand.
 
-use crate::files::push_words;
 use dream_words::{Bit, Call, Flags, Memory, Outcome, Regs, Width};
 use elf_image::{Image, ImageFault};
+use row_files::push_words;
 use run_lines::{StartWord, are_start_words, count, line, start, start_word, value};
 use sqlite_items::Items;
 use std::alloc::{AllocError, Global};

@@ -1,12 +1,12 @@
 //! Runs with rights to some pages alone: the machine's, and that of the function that is decompiled.
 
-use crate::files::elf;
 use c_run::run_c;
 use c_syntax::{CFun, CStmt};
 use dream_engine::{Form, decompile_fun};
 use dream_words::{Bit, Flags, Memory, Outcome, PageRun, Pages, Regs, Start};
 use elf_image::{Image, Range};
 use machine::run;
+use row_files::elf;
 use sqlite_items::Items;
 use std::alloc::{AllocError, Global};
 use std::test::Fail;

@@ -1,10 +1,10 @@
 //! The flow of what is discovered of code.
 
-use crate::files::elf;
 use elf_image::{Image, Range};
 use flow_graph::discover;
 use micro_ir::{Block, End, Flow};
 use range_flow::flow_of;
+use row_files::elf;
 use std::alloc::{AllocError, Global};
 use std::test::Fail;
 
