@@ -8,3 +8,4 @@ pub mod Taking
 pub mod Stepping
 pub mod Ending
 pub mod Folded
+pub mod Made

@@ -4,3 +4,4 @@ pub mod Follows
 pub mod Fits
 pub mod Folds
 pub mod Ends
+pub mod Adds

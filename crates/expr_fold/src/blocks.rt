@@ -6,6 +6,7 @@ ghost use Rattle.expr_fold.specs.Placed.{placed_end};
 ghost use Rattle.expr_fold.specs.Follows.{FollowsFirst};
 ghost use Rattle.expr_fold.specs.Ends.{end_fits, no_register, leaves_of, may_end};
 ghost use Rattle.expr_fold.specs.Folds.{everything, FoldsBlock, FoldsBlocks};
+ghost use Rattle.expr_fold.specs.Adds.{AddsFolded};
 
 use crate::delayed::Delayed;
 use crate::folding::{DEPTH, Folding};
@@ -93,28 +94,62 @@ fn may_end(delayed: &[Delayed], e: &End) -> bool
     }
 }
 
-/// A block with words in place. None where that can't be.
-fn block(alloc: Global, b: &Block) -> Result<Option<Block>, AllocError>
-    requires { IsTrue (is_flow_block b.now) }
-    ensures { IfOk result (λ o. IfSome o (λ c. (k : ℕ) → FoldsBlock (λ j. everything) k b.now c)) }
+/// The statements of a block, with what may be seen after its end. None where they can't be taken.
+fn closed(alloc: Global, b: &Block) -> Result<Option<Folding>, AllocError>
+    ensures { IfOk result (λ o. IfSome o (λ g. FollowsFirst b.now.stmts (length b.now.stmts) g.done g.delayed.items)) }
 {
     let Some(folding) = statements(alloc, b.stmts.as_slice())? else {
         return Ok(None);
     };
     let mut folding = folding;
     policy::close(&mut folding, alloc, leaves(&b.end))?;
-    let end = placed_end(alloc, &folding.delayed, &b.end)?;
+    Ok(Some(folding))
+}
+
+/// An end with delayed words in place. None where its words are too deep, or what is delayed may be seen after it.
+fn ended(alloc: Global, delayed: &[Delayed], e: &End) -> Result<Option<End>, AllocError>
+    ensures placed { IfOk result (λ o. IfSome o (λ r. r ≡ placed_end delayed.now e.now)) }
+    ensures fits { IfOk result (λ o. IfSome o (λ r. IsTrue (end_fits r))) }
+    ensures unseen { IfOk result (λ o. IfSome o (λ r. IsTrue (may_end e.now delayed.now))) }
+{
+    if !may_end(delayed, e) {
+        return Ok(None);
+    }
+    let end = placed_end(alloc, delayed, e)?;
     if !end_fits(&end) {
         return Ok(None);
     }
-    if !may_end(&folding.delayed, &b.end) {
+    Ok(Some(end))
+}
+
+/// A block with words in place. None where that can't be.
+fn block(alloc: Global, b: &Block) -> Result<Option<Block>, AllocError>
+    requires { IsTrue (is_flow_block b.now) }
+    ensures { IfOk result (λ o. IfSome o (λ c. (k : ℕ) → FoldsBlock (λ j. everything) k b.now c)) }
+{
+    let Some(folding) = closed(alloc, b)? else {
         return Ok(None);
-    }
+    };
+    let Some(end) = ended(alloc, &folding.delayed, &b.end)? else {
+        return Ok(None);
+    };
     Ok(Some(Block {
         at: b.at,
         stmts: folding.done,
         end,
     }))
+}
+
+/// Adds a block with words in place. False where that can't be.
+fn add_block(alloc: Global, b: &Block, made: &mut Items<Block>) -> Result<bool, AllocError>
+    requires { IsTrue (is_flow_block b.now) }
+    ensures { IfOk result (λ is. IsTrue is → AddsFolded b.now made.old made.new) }
+{
+    let Some(c) = block(alloc, b)? else {
+        return Ok(false);
+    };
+    made.push(c)?;
+    Ok(true)
 }
 
 /// Blocks with words in place. None where that can't be.
@@ -124,9 +159,8 @@ pub(crate) fn blocks(alloc: Global, all: &[Block]) -> Result<Option<Items<Block>
 {
     let mut made = Items::new(alloc);
     for b in all {
-        match block(alloc, b)? {
-            None => return Ok(None),
-            Some(c) => made.push(c)?,
+        if !add_block(alloc, b, &mut made)? {
+            return Ok(None);
         }
     }
     Ok(Some(made))
