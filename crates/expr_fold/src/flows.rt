@@ -16,9 +16,9 @@ pub fn fold(alloc: Global, f: Flow) -> Result<Flow, AllocError>
 {
     match blocks(alloc, f.blocks.as_slice())? {
         None => Ok(f),
-        Some(blocks) => Ok(Flow {
+        Some(folded) => Ok(Flow {
             entry: f.entry,
-            blocks,
+            blocks: folded,
         }),
     }
 }
