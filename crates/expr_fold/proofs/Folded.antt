@@ -1,0 +1,201 @@
+-- Blocks with words in place.
+use Rattle.std.proofs.Common.{◌≡◌, ◌⊎◌, inl, inr, ℕ, zero, suc, ◌+◌, ◌<◌, ◌≤◌, ◌^◌, Bool, true, false, nat_le, ◌&&◌, ◌||◌, List, [], ◌∷◌, ◌++◌, length, take, get_or, Option, Some, None, map, refl, sym, ap, ◌∙◌, subst, arith, length-append}
+use Rattle.std.specs.Prelude.{IsTrue, Contains, slice_get}
+use Rattle.std.proofs.lemmas.List.{take_more}
+use Rattle.std.proofs.Math.Seq.{take-length}
+use Rattle.dream_words.specs.declared.machine.Name.{Name}
+use Rattle.run_parts.specs.Steps.{Next, Halt, Jam, To, End, Nowhere, arrive}
+use Rattle.run_parts.specs.World.{World}
+use Rattle.run_parts.specs.Effects.{Doing}
+use Rattle.c_syntax.specs.declared.syntax.CExpr.{CExpr}
+use Rattle.c_syntax.specs.declared.syntax.CCond.{CCond}
+use Rattle.c_syntax.specs.Depth.{word_depth, cond_depth}
+use Rattle.micro_ir.specs.declared.flow.Stmt.{Stmt}
+use Rattle.micro_ir.specs.declared.flow.End.{End as BlockEnd}
+use Rattle.micro_ir.specs.declared.flow.End.TheVariants as end
+use Rattle.micro_ir.specs.declared.flow.Block.{Block}
+use Rattle.micro_ir.specs.declared.flow.Flow.{Flow}
+use Rattle.micro_ir.specs.Checked.{nodes_of, IsChecked}
+use Rattle.micro_ir.specs.Rule.{has_flow_names, cond_has_flow_names, is_flow_word, is_flow_cond, is_flow_stmt, are_flow_stmts, have_words, is_flow_end, is_flow_block, are_flow_blocks, nodes_in, IsGiven}
+use Rattle.micro_ir.specs.Run.{Arrive, stmts_do, end_leads, block_leads}
+use Rattle.micro_ir.specs.World.{IsWorld}
+use Rattle.micro_ir.proofs.Values.{both_true}
+use Rattle.flow_passes.specs.Uses.{NameSet, stmt_reads, stmt_sets}
+use Rattle.flow_passes.specs.Alike.{Alike, ArrivesAlike, GoAlike}
+use Rattle.flow_passes.specs.Keeps.{EndsAlike, KeepsBlock, Keeps}
+use Rattle.flow_passes.proofs.Walking.{going_alike_keeps_runs}
+use Rattle.expr_fold.specs.declared.delayed.Delayed.{Delayed}
+use Rattle.expr_fold.specs.Delayed.{are_flow_delayed}
+use Rattle.expr_fold.specs.Placed.{placed_word, placed_cond, placed_end}
+use Rattle.expr_fold.specs.Follows.{Behind, DoesBehind, Follows, Sees, Takes, Waits, FollowsFirst}
+use Rattle.expr_fold.specs.Fits.{word_fits, cond_fits}
+use Rattle.expr_fold.specs.Folds.{everything, FoldsBlock, FoldsBlocks}
+use Rattle.expr_fold.proofs.Named.{and_true}
+use Rattle.expr_fold.proofs.Placing.{word_named, cond_named}
+use Rattle.expr_fold.proofs.Taking.{rule_more}
+use Rattle.expr_fold.specs.Ends.{EndsWell, end_fits, no_register, leaves_of}
+use Rattle.expr_fold.proofs.Ending.{end_behind}
+
+-- ---- statements one after another
+
+pub follows_none : (before : NameSet) (new : List Stmt) (p : List Delayed) → new ≡ [] → p ≡ [] → Follows before before [] new p
+follows_none before new p e f =
+    subst (λ x. Follows before before [] x p) (sym e) (subst (λ y. Follows before before [] [] y) (sym f)
+    (record {
+      does = λ w u iw iu al. (u, refl, record { names = record { held = tt; others = λ n i g. al.names n i }; mem = al.mem; pages = al.pages; left = al.left; calls = al.calls });
+      rule = refl;
+      delayed_rule = refl;
+      loads = refl;
+      stores = refl;
+      calls = refl;
+    }))
+
+rule_less : (ss : List Stmt) (s : Stmt) → IsTrue (are_flow_stmts (ss ++ s ∷ [])) → IsTrue (are_flow_stmts ss) × IsTrue (is_flow_stmt s)
+rule_less [] s h = (refl, (both_true (is_flow_stmt s) true h).0)
+rule_less (r ∷ rs) s h =
+    let k = both_true (is_flow_stmt r) (are_flow_stmts (rs ++ s ∷ [])) h in
+    let j = rule_less rs s k.1 in
+    (and_true (is_flow_stmt r) (are_flow_stmts rs) k.0 j.0, j.1)
+
+pub follows_more : (all : List Stmt) (i : ℕ) (s : Stmt) (new : List Stmt) (p : List Delayed) (new' : List Stmt) (p' : List Delayed) → i < length all → s ≡ get_or all i s
+    → Takes s new p new' p' → FollowsFirst all i new p → FollowsFirst all (i + 1) new' p'
+follows_more all i s new p new' p' l e t h sees each =
+    subst (λ x. IsTrue (are_flow_stmts x) → Follows (sees 0) (sees (i + 1)) x new' p') (sym (take_more all i s l ∙ ap (λ x. take i all ++ x ∷ []) (sym e)))
+    (λ r. let k = rule_less (take i all) s r in t (sees 0) (sees i) (sees (i + 1)) (take i all) k.1 (each i s l e) (h sees each k.0))
+
+-- all statements
+pub follows_all : (all : List Stmt) (i : ℕ) (new : List Stmt) (p : List Delayed) → length all ≤ i → i ≤ length all → FollowsFirst all i new p → FollowsFirst all (length all) new p
+follows_all all i new p a b h = subst (λ n. FollowsFirst all n new p) (let e : i ≡ length all = omega arith in e) h
+
+-- steps before and after a statement
+pub takes_between : (s : Stmt) (a : List Stmt) (p : List Delayed) (b : List Stmt) (q : List Delayed) (c : List Stmt) (r : List Delayed) (d : List Stmt) (t : List Delayed)
+    → Waits a p b q → Takes s b q c r → Waits c r d t → Takes s a p d t
+takes_between s a p b q c r d t f g h before seen after old rule sees x = h before after (old ++ s ∷ []) (g before seen after old rule sees (f before seen old x))
+
+-- ---- ends
+
+end_rule : (p : List Delayed) (e : BlockEnd) → IsTrue (are_flow_delayed p) → IsTrue (is_flow_end e) → IsTrue (end_fits (placed_end p e)) → IsTrue (is_flow_end (placed_end p e))
+end_rule p (end.Go a) r t f = t
+end_rule p (end.Branch c a b) r t f = and_true (cond_has_flow_names (placed_cond p c)) (nat_le (cond_depth (placed_cond p c)) 64) (cond_named p r c (both_true (cond_has_flow_names c) (nat_le (cond_depth c) 64) t).0) f
+end_rule p (end.Switch a cases) r t f =
+    let k = both_true (is_flow_word a) (have_words cases) t in
+    and_true (is_flow_word (placed_word p a)) (have_words cases)
+    (and_true (has_flow_names (placed_word p a)) (nat_le (word_depth (placed_word p a)) 64) (word_named p r a (both_true (has_flow_names a) (nat_le (word_depth a) 64) k.0).0) f) k.1
+end_rule p end.Return r t f = t
+end_rule p (end.Leave a) r t f = and_true (has_flow_names (placed_word p a)) (nat_le (word_depth (placed_word p a)) 64) (word_named p r a (both_true (has_flow_names a) (nat_le (word_depth a) 64) t).0) f
+
+ends_alike : (p : List Delayed) (e : BlockEnd) → EndsAlike e (placed_end p e)
+ends_alike p (end.Go a) = refl
+ends_alike p (end.Branch t a b) = (refl, refl)
+ends_alike p (end.Switch a cases) = refl
+ends_alike p end.Return = tt
+ends_alike p (end.Leave a) = tt
+
+-- ---- a block
+
+leads_by : (live : ℕ → NameSet) (seen : NameSet) (p : List Delayed) (e : BlockEnd) (d f : Doing) → DoesBehind seen p d f → EndsWell live seen p e → ArrivesAlike live (arrive d (end_leads e)) (arrive f (end_leads (placed_end p e)))
+leads_by live seen p e Jam f h g = tt
+leads_by live seen p e (Halt o) f h g = ap (λ x. arrive x (end_leads (placed_end p e))) h
+leads_by live seen p e (Next w) f (u, r, b) g = subst (λ x. ArrivesAlike live (end_leads e w) (arrive x (end_leads (placed_end p e)))) (sym r) (end_behind live seen p e w u g b)
+
+-- everything is seen before and after each statement
+sees_everything : (s : Stmt) → Sees s everything everything
+sees_everything s = record { reads = λ n t. refl; after_it = λ n t. inr refl }
+
+pub block_folds : (k : ℕ) (b c : Block) (p : List Delayed) → IsTrue (is_flow_block b) → FollowsFirst b.stmts (length b.stmts) c.stmts p → EndsWell (λ j. everything) everything p b.end
+    → c.at ≡ b.at → c.end ≡ placed_end p b.end → IsTrue (end_fits c.end) → FoldsBlock (λ j. everything) k b c
+block_folds k b c p rule follows well at e fits =
+    let live : ℕ → NameSet = λ j. everything in
+    let t = both_true (are_flow_stmts b.stmts) (is_flow_end b.end) rule in
+    let h = follows live (λ i s l g. sees_everything s) (subst (λ x. IsTrue (are_flow_stmts x)) (sym (take-length b.stmts)) t.0) in
+    let h2 : Follows everything everything b.stmts c.stmts p = subst (λ x. Follows everything everything x c.stmts p) (take-length b.stmts) h in
+    record {
+      keeps = record { at = at; end = subst (EndsAlike b.end) (sym e) (ends_alike p b.end); loads = h2.loads; stores = h2.stores; calls = h2.calls };
+      rule = and_true (are_flow_stmts c.stmts) (is_flow_end c.end) h2.rule (subst (λ x. IsTrue (is_flow_end x)) (sym e) (end_rule p b.end h2.delayed_rule t.1 (subst (λ x. IsTrue (end_fits x)) e fits)));
+      leads = λ w u iw iu al. subst (λ x. ArrivesAlike live (block_leads b w) (arrive (stmts_do c.stmts u) (end_leads x))) (sym e)
+          (leads_by live everything p b.end (stmts_do b.stmts w) (stmts_do c.stmts u) (h2.does w u iw iu al) well);
+    }
+
+-- ---- blocks
+
+pub folds_more : (live : ℕ → NameSet) (k : ℕ) (bs cs : List Block) (b c : Block) → FoldsBlocks live k bs cs → FoldsBlock live (k + length bs) b c → FoldsBlocks live k (bs ++ b ∷ []) (cs ++ c ∷ [])
+folds_more live k [] [] b c h g = (subst (λ n. FoldsBlock live n b c) (let e : k + 0 ≡ k = omega arith in e) g, tt)
+folds_more live k [] (y ∷ ys) b c h g = absurd h
+folds_more live k (x ∷ xs) [] b c h g = absurd h
+folds_more live k (x ∷ xs) (y ∷ ys) b c h g = (h.0, folds_more live (suc k) xs ys b c h.1 (subst (λ n. FoldsBlock live n b c) (let e : k + suc (length xs) ≡ suc k + length xs = omega arith in e) g))
+
+folds_count : (live : ℕ → NameSet) (k : ℕ) (bs cs : List Block) → FoldsBlocks live k bs cs → length cs ≡ length bs
+folds_count live k [] [] h = refl
+folds_count live k [] (y ∷ ys) h = absurd h
+folds_count live k (x ∷ xs) [] h = absurd h
+folds_count live k (x ∷ xs) (y ∷ ys) h = ap suc (folds_count live (suc k) xs ys h.1)
+
+folds_at : (live : ℕ → NameSet) (k n : ℕ) (bs cs : List Block) (b c : Block) → FoldsBlocks live k bs cs → slice_get bs n ≡ Some b → slice_get cs n ≡ Some c → FoldsBlock live (k + n) b c
+folds_at live k n [] cs b c h e f = absurd (let z : ⊥ = cc in z)
+folds_at live k n (x ∷ xs) [] b c h e f = absurd h
+folds_at live k zero (x ∷ xs) (y ∷ ys) b c h e f =
+    let s : x ≡ b = cc in
+    let t : y ≡ c = cc in
+    subst (λ n. FoldsBlock live n b c) (let g : k ≡ k + 0 = omega arith in g) (subst (λ z. FoldsBlock live k z c) s (subst (λ z. FoldsBlock live k x z) t h.0))
+folds_at live k (suc n) (x ∷ xs) (y ∷ ys) b c h e f = subst (λ m. FoldsBlock live m b c) (let g : suc k + n ≡ k + suc n = omega arith in g) (folds_at live (suc k) n xs ys b c h.1 e f)
+
+folds_rule : (live : ℕ → NameSet) (k : ℕ) (bs cs : List Block) → FoldsBlocks live k bs cs → IsTrue (are_flow_blocks cs)
+folds_rule live k [] [] h = refl
+folds_rule live k [] (y ∷ ys) h = absurd h
+folds_rule live k (x ∷ xs) [] h = absurd h
+folds_rule live k (x ∷ xs) (y ∷ ys) h = and_true (is_flow_block y) (are_flow_blocks ys) h.0.rule (folds_rule live (suc k) xs ys h.1)
+
+-- ends that are alike have the same nodes
+nodes_same : (a b : BlockEnd) → EndsAlike a b → nodes_of b ≡ nodes_of a
+nodes_same (end.Go a) (end.Go b) h = ap (λ n. n ∷ []) h
+nodes_same (end.Branch t a b) (end.Branch u c d) h = ap (λ n. n ∷ d ∷ []) h.0 ∙ ap (λ n. a ∷ n ∷ []) h.1
+nodes_same (end.Switch e cases) (end.Switch f others) h = ap (λ x. map (λ c. c.to) x) h
+nodes_same end.Return end.Return h = refl
+nodes_same (end.Leave e) (end.Leave f) h = refl
+nodes_same a b h = absurd h
+
+folds_nodes : (live : ℕ → NameSet) (k : ℕ) (bs cs : List Block) → FoldsBlocks live k bs cs → nodes_in cs ≡ nodes_in bs
+folds_nodes live k [] [] h = refl
+folds_nodes live k [] (y ∷ ys) h = absurd h
+folds_nodes live k (x ∷ xs) [] h = absurd h
+folds_nodes live k (x ∷ xs) (y ∷ ys) h = ap (λ n. n ++ nodes_in ys) (nodes_same x.end y.end h.0.keeps.end) ∙ ap (λ n. nodes_of x.end ++ n) (folds_nodes live (suc k) xs ys h.1)
+
+-- ---- a flow
+
+-- where one list has an element, another of its length has one
+also_at : (bs cs : List Block) (n : ℕ) (c : Block) → length cs ≡ length bs → slice_get cs n ≡ Some c → (b : Block) × (slice_get bs n ≡ Some b)
+also_at [] [] n c e f = absurd (let z : ⊥ = cc in z)
+also_at [] (y ∷ ys) n c e f = absurd (omega (arith, e))
+also_at (x ∷ xs) [] n c e f = absurd (let z : ⊥ = cc in z)
+also_at (x ∷ xs) (y ∷ ys) zero c e f = (x, refl)
+also_at (x ∷ xs) (y ∷ ys) (suc n) c e f = also_at xs ys n c (omega (arith, e)) f
+
+from_zero : (live : ℕ → NameSet) (n : ℕ) (b c : Block) → FoldsBlock live (0 + n) b c → FoldsBlock live n b c
+from_zero live n b c h = subst (λ m. FoldsBlock live m b c) (let g : 0 + n ≡ n = omega arith in g) h
+
+pub flow_given : (live : ℕ → NameSet) (f g : Flow) → IsGiven f → FoldsBlocks live 0 f.blocks g.blocks → g.entry ≡ f.entry → IsGiven g
+flow_given live f g h r e =
+    let count = folds_count live 0 f.blocks g.blocks r in
+    let nodes = folds_nodes live 0 f.blocks g.blocks r in
+    record {
+      checked = record {
+        entry_inside = let x = h.checked.entry_inside in omega (arith, x, e, count);
+        nodes_inside = λ n a c at t.
+            let b = also_at f.blocks g.blocks n c count at in
+            let k = from_zero live n b.0 c (folds_at live 0 n f.blocks g.blocks b.0 c r b.1 at) in
+            let x = h.checked.nodes_inside n a b.0 b.1 (subst (λ y. Contains y a) (nodes_same b.0.end c.end k.keeps.end) t) in
+            omega (arith, x, count);
+      };
+      rule = folds_rule live 0 f.blocks g.blocks r;
+      few_blocks = let x = h.few_blocks in omega (arith, x, count);
+      few_nodes = subst (λ y. length y < 2 ^ 30) (sym nodes) h.few_nodes;
+    }
+
+pub flow_keeps : (live : ℕ → NameSet) (f g : Flow) → IsGiven f → FoldsBlocks live 0 f.blocks g.blocks → g.entry ≡ f.entry → Keeps f g
+flow_keeps live f g h r e = record {
+  entry = e;
+  count = folds_count live 0 f.blocks g.blocks r;
+  blocks = λ n b c at t. (folds_at live 0 n f.blocks g.blocks b c r at t).keeps;
+  runs = going_alike_keeps_runs f g live h.rule (folds_rule live 0 f.blocks g.blocks r) e
+      (record { count = folds_count live 0 f.blocks g.blocks r; blocks = λ n b c at t. (from_zero live n b c (folds_at live 0 n f.blocks g.blocks b c r at t)).leads });
+}

@@ -1,0 +1,24 @@
+//! A flow with words in place.
+
+ghost use Rattle.std.specs.Prelude.{IfOk};
+ghost use Rattle.micro_ir.specs.Rule.{IsGiven};
+ghost use Rattle.flow_passes.specs.Keeps.{Keeps};
+
+use crate::blocks::blocks;
+use micro_ir::Flow;
+use std::alloc::{AllocError, Global};
+
+/// A flow in which words stand in the place of names that were set to them.
+pub fn fold(alloc: Global, f: Flow) -> Result<Flow, AllocError>
+    requires { IsGiven f }
+    ensures given { IfOk result (λ g. IsGiven g) }
+    ensures keeps { IfOk result (λ g. Keeps f g) }
+{
+    match blocks(alloc, f.blocks.as_slice())? {
+        None => Ok(f),
+        Some(folded) => Ok(Flow {
+            entry: f.entry,
+            blocks: folded,
+        }),
+    }
+}

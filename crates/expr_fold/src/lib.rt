@@ -1,0 +1,15 @@
+//! Words in place: a pass that puts words where the names stand that were set to them.
+//! Given are flows.
+//! Promised is a flow that keeps the given one, with the same loads, stores, calls and targets.
+#![tactic(auto)]
+
+mod blocks;
+mod delayed;
+mod flows;
+mod folding;
+mod names;
+mod placed;
+mod policy;
+mod uses;
+
+pub use flows::fold;

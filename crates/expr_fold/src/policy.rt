@@ -1,0 +1,203 @@
+//! Which sets are delayed, and for how long. Each choice is right; these are the ones that leave few and short statements.
+
+ghost use Rattle.std.specs.Prelude.{◌<◌, length, IsTrue, OnOk, IfOk};
+ghost use Rattle.expr_fold.specs.Follows.{Waits, Takes};
+
+use crate::delayed::Delayed;
+use crate::folding::Folding;
+use crate::{names, uses};
+use dream_words::Name;
+use micro_ir::{Expr, Stmt};
+use std::alloc::{AllocError, Global};
+
+/// How many sets are delayed at most.
+const MOST_DELAYED: usize = 20;
+
+/// How many parts a word has at most that stands in place.
+const LARGEST: u32 = 60;
+
+/// How many parts a small word has at most.
+const SMALL: u32 = 2;
+
+/// Names among some.
+fn has(names: &[Name], n: Name) -> bool {
+    for m in names {
+        if names::same_name(*m, n) {
+            return true;
+        }
+    }
+    false
+}
+
+/// A word reads one of some names.
+fn reads_one(e: &Expr, names: &[Name]) -> bool {
+    for m in names {
+        if names::word_reads(e, *m) {
+            return true;
+        }
+    }
+    false
+}
+
+/// The names, and those whose delayed words read them, and so on. Later words read earlier names alone.
+fn with_readers(delayed: &[Delayed], chosen: Vec<Name>) -> Result<Vec<Name>, AllocError> {
+    let mut chosen = chosen;
+    for d in delayed {
+        if !has(&chosen, d.name) && reads_one(&d.word, &chosen) {
+            chosen.push(d.name)?;
+        }
+    }
+    Ok(chosen)
+}
+
+/// A delayed set is at a place, and its name among some.
+fn is_chosen(delayed: &[Delayed], at: usize, chosen: &[Name]) -> bool
+    ensures { IsTrue result → at < length delayed.now }
+{
+    match delayed.get(at) {
+        None => false,
+        Some(d) => has(chosen, d.name),
+    }
+}
+
+/// Does the delayed sets of some names, and of those that read them, the last first.
+fn set_chosen(folding: &mut Folding, chosen: Vec<Name>) -> Result<(), AllocError>
+    ensures { OnOk result (Waits folding.old.done folding.old.delayed.items folding.new.done folding.new.delayed.items) }
+{
+    let chosen = with_readers(&folding.delayed, chosen)?;
+    for at in (0..folding.delayed.len()).rev() {
+        if is_chosen(&folding.delayed, at, &chosen) {
+            folding.set_at(at)?;
+        }
+    }
+    Ok(())
+}
+
+/// The names whose delayed words read a name.
+fn readers(alloc: Global, delayed: &[Delayed], n: Name) -> Result<Vec<Name>, AllocError> {
+    let mut names = Vec::new(alloc);
+    for d in delayed {
+        if !names::same_name(d.name, n) && names::word_reads(&d.word, n) {
+            names.push(d.name)?;
+        }
+    }
+    Ok(names)
+}
+
+/// The delayed names that aren't flags.
+fn unflagged(alloc: Global, delayed: &[Delayed]) -> Result<Vec<Name>, AllocError> {
+    let mut names = Vec::new(alloc);
+    for d in delayed {
+        if !names::is_flag(d.name) {
+            names.push(d.name)?;
+        }
+    }
+    Ok(names)
+}
+
+/// The delayed registers.
+fn registers(alloc: Global, delayed: &[Delayed]) -> Result<Vec<Name>, AllocError> {
+    let mut names = Vec::new(alloc);
+    for d in delayed {
+        if names::is_register(d.name) {
+            names.push(d.name)?;
+        }
+    }
+    Ok(names)
+}
+
+/// All delayed names.
+fn all(alloc: Global, delayed: &[Delayed]) -> Result<Vec<Name>, AllocError> {
+    let mut names = Vec::new(alloc);
+    for d in delayed {
+        names.push(d.name)?;
+    }
+    Ok(names)
+}
+
+/// The delayed names with large words that a word reads.
+fn large_in(alloc: Global, delayed: &[Delayed], e: &Expr) -> Result<Vec<Name>, AllocError> {
+    let mut names = Vec::new(alloc);
+    for d in delayed {
+        if uses::word_size(&d.word) > LARGEST && names::word_reads(e, d.name) {
+            names.push(d.name)?;
+        }
+    }
+    Ok(names)
+}
+
+/// The names to be set before a statement is taken.
+fn before(alloc: Global, delayed: &[Delayed], s: &Stmt) -> Result<Vec<Name>, AllocError> {
+    match s {
+        Stmt::Set(n, _) => readers(alloc, delayed, *n),
+        Stmt::Load(n, _, _) => readers(alloc, delayed, *n),
+        Stmt::Store(_, e, _) => large_in(alloc, delayed, e),
+        Stmt::Ext(_) => unflagged(alloc, delayed),
+        Stmt::Trap(_, e) => large_in(alloc, delayed, e),
+    }
+}
+
+/// A set of a name to a word is done at once, where the next statements are given.
+fn is_done_now(n: Name, word: &Expr, rest: &[Stmt]) -> bool {
+    let size = uses::word_size(word);
+    if size <= SMALL || names::is_flag(n) {
+        return size > LARGEST;
+    }
+    size > LARGEST || names::is_register(n) || uses::reads_ahead(rest, n) > 1
+}
+
+/// The names to be set after a statement was taken.
+fn after(
+    alloc: Global,
+    delayed: &[Delayed],
+    s: &Stmt,
+    rest: &[Stmt],
+) -> Result<Vec<Name>, AllocError> {
+    let mut names = Vec::new(alloc);
+    if let Stmt::Set(n, _) = s
+        && let Some(d) = delayed.last()
+        && is_done_now(*n, &d.word, rest)
+    {
+        names.push(*n)?;
+    }
+    if delayed.len() > MOST_DELAYED
+        && let Some(d) = delayed.first()
+    {
+        names.push(d.name)?;
+    }
+    Ok(names)
+}
+
+/// Takes a statement, where the next ones are given. False where that can't be.
+pub(crate) fn step(
+    folding: &mut Folding,
+    alloc: Global,
+    s: &Stmt,
+    rest: &[Stmt],
+) -> Result<bool, AllocError>
+    ensures { IfOk result (λ b. IsTrue b → Takes s.now folding.old.done folding.old.delayed.items folding.new.done folding.new.delayed.items) }
+{
+    let first = before(alloc, &folding.delayed, s)?;
+    set_chosen(folding, first)?;
+    if !folding.take(alloc, s)? {
+        return Ok(false);
+    }
+    let last = after(alloc, &folding.delayed, s, rest)?;
+    set_chosen(folding, last)?;
+    Ok(true)
+}
+
+/// Does what is delayed and may be seen after an end.
+pub(crate) fn close(folding: &mut Folding, alloc: Global, leaves: bool) -> Result<(), AllocError>
+    ensures { OnOk result (Waits folding.old.done folding.old.delayed.items folding.new.done folding.new.delayed.items) }
+{
+    if leaves {
+        let chosen = registers(alloc, &folding.delayed)?;
+        set_chosen(folding, chosen)?;
+        Ok(())
+    } else {
+        let chosen = all(alloc, &folding.delayed)?;
+        set_chosen(folding, chosen)?;
+        Ok(())
+    }
+}
