@@ -159,7 +159,7 @@ impl<'a> Lister<'a> {
         n
     }
 
-    /// A test with its two plans; nothing where both are empty.
+    /// A test of a variable that is 0 or 1, with its two plans; nothing where both are empty. That it is 1 is told by that it isn't 0.
     fn test(
         &mut self,
         plan: &mut Items<Plan>,
@@ -168,6 +168,13 @@ impl<'a> Lister<'a> {
         second: Items<Plan>,
     ) -> Result<(), AllocError> {
         let mut values = Items::new(self.alloc);
+        if of.value == 1 {
+            values.push(Value {
+                name: of.name,
+                value: 0,
+            })?;
+            return self.test_any(plan, values, second, first);
+        }
         values.push(of)?;
         self.test_any(plan, values, first, second)
     }
@@ -201,19 +208,11 @@ impl<'a> Lister<'a> {
             return Ok(Vec::new(self.alloc));
         }
         self.open_list(item, plan, todo)?;
+        self.put_component(item, plan)?;
         let region = self.region;
-        let block = match region.items.get(item).copied() {
-            Some(Item::Block(node)) => Some(node),
-            Some(Item::Loop(component)) => {
-                self.component(component, plan)?;
-                None
-            }
-            Some(Item::Turn) => None,
-            None => None,
-        };
         match region.outs.get(item) {
             None => Ok(Vec::new(self.alloc)),
-            Some(out) => self.out(block, out, room - 1, plan, todo),
+            Some(out) => self.out(item, out, room - 1, plan, todo),
         }
     }
 
@@ -272,6 +271,24 @@ impl<'a> Lister<'a> {
         Ok(entries)
     }
 
+    /// Puts the block of an item into a plan, where it is one.
+    fn put_block(&self, plan: &mut Items<Plan>, item: usize, way: Way) -> Result<(), AllocError> {
+        let region = self.region;
+        match region.items.get(item) {
+            Some(Item::Block(node)) => plan.push(Plan::Block(*node, way)),
+            _ => Ok(()),
+        }
+    }
+
+    /// Puts the component of an item into a plan, where it is one.
+    fn put_component(&mut self, item: usize, plan: &mut Items<Plan>) -> Result<(), AllocError> {
+        let region = self.region;
+        match region.items.get(item) {
+            Some(Item::Loop(component)) => self.component(*component, plan),
+            _ => Ok(()),
+        }
+    }
+
     /// Lays a component.
     fn component(&mut self, component: usize, plan: &mut Items<Plan>) -> Result<(), AllocError> {
         let components = self.components;
@@ -294,7 +311,7 @@ impl<'a> Lister<'a> {
     #[cycle(lists)]
     fn out(
         &mut self,
-        block: Option<NodeId>,
+        item: usize,
         out: &Out,
         room: u32,
         plan: &mut Items<Plan>,
@@ -306,17 +323,17 @@ impl<'a> Lister<'a> {
         }
         match out {
             Out::Stops => {
-                put_block(plan, block, way(WAY, 1, 0))?;
+                self.put_block(plan, item, way(WAY, 1, 0))?;
                 Ok(Vec::new(self.alloc))
             }
             Out::Go(a) => {
-                put_block(plan, block, way(WAY, 1, 0))?;
+                self.put_block(plan, item, way(WAY, 1, 0))?;
                 self.follow(*a, true, plan, todo)
             }
-            Out::Branch(a, b) => self.branch(block, *a, *b, room - 1, plan, todo),
+            Out::Branch(a, b) => self.branch(item, *a, *b, room - 1, plan, todo),
             Out::Switch(groups) => {
                 let word = self.fresh();
-                put_block(plan, block, way(word, 1, 0))?;
+                self.put_block(plan, item, way(word, 1, 0))?;
                 self.choose(By::Word(word), groups, room - 1, plan)
             }
             Out::Select(component, groups) => {
@@ -463,7 +480,7 @@ impl<'a> Lister<'a> {
     #[cycle(lists)]
     fn branch(
         &mut self,
-        block: Option<NodeId>,
+        item: usize,
         a: Target,
         b: Target,
         room: u32,
@@ -479,7 +496,7 @@ impl<'a> Lister<'a> {
             (None, Some(g)) => way(g, 0, 1),
             (None, None) => way(WAY, 1, 0),
         };
-        put_block(plan, block, told)?;
+        self.put_block(plan, item, told)?;
         if let (Some(f), Some(g)) = (self.flag_of(a), self.flag_of(b)) {
             plan.push(Plan::Pick(way(g, 0, 1), value(f, 1)))?;
         }
@@ -589,14 +606,6 @@ impl<'a> Lister<'a> {
             }
         }
         Ok(tested)
-    }
-}
-
-/// Puts a block into a plan.
-fn put_block(plan: &mut Items<Plan>, block: Option<NodeId>, way: Way) -> Result<(), AllocError> {
-    match block {
-        None => Ok(()),
-        Some(node) => plan.push(Plan::Block(node, way)),
     }
 }
 

@@ -87,8 +87,9 @@ fn largest_last(groups: &mut Vec<Group>) {
             at = k;
         }
     }
-    if at + 1 < groups.len() {
-        let last = groups.len() - 1;
-        groups.swap(at, last);
+    if let Some(last) = groups.len().checked_sub(1) {
+        if at < last {
+            groups.swap(at, last);
+        }
     }
 }
