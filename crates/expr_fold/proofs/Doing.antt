@@ -1,6 +1,6 @@
 -- A statement with delayed words in place does, from a world that is behind, what the statement does.
-use Rattle.std.proofs.Common.{◌≡◌, ◌⊎◌, inl, inr, ℕ, Bool, true, false, cond, nat_eq, not, ◌&&◌, ◌||◌, List, [], ◌∷◌, ◌++◌, Option, Some, None, refl, sym, ap, ◌∙◌, subst}
-use Rattle.std.specs.Prelude.{IsTrue, slice_get, remove}
+use Rattle.std.proofs.Common.{◌≡◌, ◌⊎◌, inl, inr, ℕ, Bool, true, false, cond, nat_eq, ◌||◌, List, [], ◌∷◌, ◌++◌, Option, Some, None, refl, sym, ◌∙◌, subst}
+use Rattle.std.specs.Prelude.{IsTrue}
 use Rattle.dream_words.specs.declared.machine.Name.{Name}
 use Rattle.dream_words.specs.declared.machine.Width.{Width}
 use Rattle.dream_words.specs.declared.outcome.Answer.{Answer}
@@ -9,22 +9,20 @@ use Rattle.dream_words.specs.declared.outcome.Outcome.{Outcome}
 use Rattle.dream_words.specs.declared.outcome.Outcome.TheVariants as outcome
 use Rattle.dream_words.specs.Memory.{load, store, bytes_of}
 use Rattle.dream_words.specs.Pages.{first_bad}
-use Rattle.run_parts.specs.Steps.{Next, Halt, Jam, having}
+use Rattle.run_parts.specs.Steps.{Next, Halt, having}
 use Rattle.run_parts.specs.World.{Names, World, with_name, regs_in, answered}
-use Rattle.run_parts.specs.Effects.{Doing, set_word, allowing, answered_by, calling, trapping, storing, loading}
+use Rattle.run_parts.specs.Effects.{Doing, set_word, allowing, answered_by, calling}
 use Rattle.c_syntax.specs.declared.syntax.CExpr.{CExpr}
 use Rattle.c_syntax.specs.Value.{word_of}
 use Rattle.c_syntax.specs.Run.{word_in}
-use Rattle.micro_ir.specs.declared.flow.Stmt.{Stmt}
 use Rattle.micro_ir.specs.declared.flow.Stmt.TheVariants as stmt
-use Rattle.micro_ir.specs.Rule.{is_flow_target, is_flow_word, is_flow_stmt}
+use Rattle.micro_ir.specs.Rule.{is_flow_target}
 use Rattle.micro_ir.specs.Run.{stmt_does}
-use Rattle.micro_ir.proofs.Values.{both_true}
-use Rattle.flow_passes.specs.Uses.{NameSet, same_name, is_register, is_flag, word_reads, stmt_reads, stmt_sets}
-use Rattle.flow_passes.specs.Laws.{Within, SameNames}
+use Rattle.flow_passes.specs.Uses.{NameSet, is_register, is_flag, word_reads}
+use Rattle.flow_passes.specs.Laws.{Within}
 use Rattle.flow_passes.proofs.Names.{or_left, or_right, same_regs, but_names}
 use Rattle.expr_fold.specs.declared.delayed.Delayed.{Delayed}
-use Rattle.expr_fold.specs.Delayed.{is_delayed, none_reads, without, are_flags, AreHeld}
+use Rattle.expr_fold.specs.Delayed.{none_reads, without, are_flags}
 use Rattle.expr_fold.specs.Placed.{placed_word, placed_stmt}
 use Rattle.expr_fold.specs.Follows.{Lags, Behind, DoesBehind, Sees}
 use Rattle.expr_fold.proofs.Placing.{word_placed}

@@ -1,23 +1,19 @@
 -- An end with delayed words in place leads where the end does.
-use Rattle.std.proofs.Common.{◌≡◌, ◌⊎◌, inl, inr, ℕ, Bool, true, false, cond, nat_eq, not, ◌&&◌, ◌||◌, List, [], ◌∷◌, ◌++◌, length, arith, Option, Some, None, map, refl, sym, ap, ◌∙◌, subst}
+use Rattle.std.proofs.Common.{◌≡◌, ◌⊎◌, inl, inr, ℕ, Bool, true, false, cond, nat_eq, not, List, [], ◌∷◌, length, arith, Option, Some, None, map, refl, sym, ap, ◌∙◌, subst}
 use Rattle.std.specs.Prelude.{IsTrue, Contains}
 use Rattle.dream_words.specs.declared.machine.Name.{Name}
 use Rattle.dream_words.specs.declared.outcome.Outcome.TheVariants as outcome
-use Rattle.run_parts.specs.Steps.{Next, Halt, Jam, To, End, Nowhere, having}
+use Rattle.run_parts.specs.Steps.{Next, Halt, Jam, To, End, having}
 use Rattle.run_parts.specs.World.{Names, World, regs_in, returned}
-use Rattle.run_parts.specs.Effects.{Doing, calling}
-use Rattle.c_syntax.specs.declared.syntax.CExpr.{CExpr}
-use Rattle.c_syntax.specs.declared.syntax.CCond.{CCond}
-use Rattle.c_syntax.specs.Value.{word_of, truth_of}
+use Rattle.run_parts.specs.Effects.{Doing}
 use Rattle.c_syntax.specs.Run.{word_in, holds}
 use Rattle.micro_ir.specs.declared.flow.Case.{Case}
 use Rattle.micro_ir.specs.declared.flow.End.{End as BlockEnd}
 use Rattle.micro_ir.specs.declared.flow.End.TheVariants as end
 use Rattle.micro_ir.specs.Checked.{nodes_of}
 use Rattle.micro_ir.specs.Run.{branch, first_case, by_value, left_by, end_leads}
-use Rattle.flow_passes.specs.Uses.{NameSet, same_name, is_register, is_flag, word_reads, cond_reads, end_reads}
+use Rattle.flow_passes.specs.Uses.{NameSet, same_name, is_register, is_flag, word_reads}
 use Rattle.flow_passes.specs.Alike.{Alike, DoesAlike, ArrivesAlike}
-use Rattle.flow_passes.specs.Laws.{Within, SameNames}
 use Rattle.flow_passes.proofs.Names.{or_left, or_right, same_regs, alike_by}
 use Rattle.flow_passes.proofs.Statements.{call_alike}
 use Rattle.std.proofs.lemmas.List.Elements.{Contains-append_left, Contains-append_right, Contains-push}
@@ -29,7 +25,7 @@ use Rattle.expr_fold.specs.Ends.{EndsWell, no_register, may_end}
 use Rattle.expr_fold.specs.Folds.{everything}
 use Rattle.expr_fold.proofs.Named.{number_same, same_true, true_or_false, or_false, not_true, not_both}
 use Rattle.micro_ir.proofs.Values.{both_true}
-use Rattle.expr_fold.proofs.Placing.{word_placed, cond_placed}
+use Rattle.expr_fold.proofs.Placing.{cond_placed}
 use Rattle.expr_fold.proofs.Doing.{behind_names, value_lags}
 
 -- the first of a list stands in it, and so does what stands in the rest

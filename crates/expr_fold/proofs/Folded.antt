@@ -1,39 +1,32 @@
 -- Blocks with words in place.
-use Rattle.std.proofs.Common.{◌≡◌, ◌⊎◌, inl, inr, ℕ, zero, suc, ◌+◌, ◌<◌, ◌≤◌, ◌^◌, Bool, true, false, nat_le, ◌&&◌, ◌||◌, List, [], ◌∷◌, ◌++◌, length, take, get_or, Option, Some, None, map, refl, sym, ap, ◌∙◌, subst, arith, length-append}
+use Rattle.std.proofs.Common.{◌≡◌, inr, ℕ, zero, suc, ◌+◌, ◌<◌, ◌≤◌, ◌^◌, true, nat_le, List, [], ◌∷◌, ◌++◌, length, take, get_or, Some, map, refl, sym, ap, ◌∙◌, subst, arith}
 use Rattle.std.specs.Prelude.{IsTrue, Contains, slice_get}
 use Rattle.std.proofs.lemmas.List.{take_more}
 use Rattle.std.proofs.Math.Seq.{take-length}
-use Rattle.dream_words.specs.declared.machine.Name.{Name}
-use Rattle.run_parts.specs.Steps.{Next, Halt, Jam, To, End, Nowhere, arrive}
-use Rattle.run_parts.specs.World.{World}
+use Rattle.run_parts.specs.Steps.{Next, Halt, Jam, arrive}
 use Rattle.run_parts.specs.Effects.{Doing}
-use Rattle.c_syntax.specs.declared.syntax.CExpr.{CExpr}
-use Rattle.c_syntax.specs.declared.syntax.CCond.{CCond}
 use Rattle.c_syntax.specs.Depth.{word_depth, cond_depth}
 use Rattle.micro_ir.specs.declared.flow.Stmt.{Stmt}
 use Rattle.micro_ir.specs.declared.flow.End.{End as BlockEnd}
 use Rattle.micro_ir.specs.declared.flow.End.TheVariants as end
 use Rattle.micro_ir.specs.declared.flow.Block.{Block}
 use Rattle.micro_ir.specs.declared.flow.Flow.{Flow}
-use Rattle.micro_ir.specs.Checked.{nodes_of, IsChecked}
-use Rattle.micro_ir.specs.Rule.{has_flow_names, cond_has_flow_names, is_flow_word, is_flow_cond, is_flow_stmt, are_flow_stmts, have_words, is_flow_end, is_flow_block, are_flow_blocks, nodes_in, IsGiven}
-use Rattle.micro_ir.specs.Run.{Arrive, stmts_do, end_leads, block_leads}
-use Rattle.micro_ir.specs.World.{IsWorld}
+use Rattle.micro_ir.specs.Checked.{nodes_of}
+use Rattle.micro_ir.specs.Rule.{has_flow_names, cond_has_flow_names, is_flow_word, is_flow_stmt, are_flow_stmts, have_words, is_flow_end, is_flow_block, are_flow_blocks, nodes_in, IsGiven}
+use Rattle.micro_ir.specs.Run.{stmts_do, end_leads, block_leads}
 use Rattle.micro_ir.proofs.Values.{both_true}
-use Rattle.flow_passes.specs.Uses.{NameSet, stmt_reads, stmt_sets}
-use Rattle.flow_passes.specs.Alike.{Alike, ArrivesAlike, GoAlike}
-use Rattle.flow_passes.specs.Keeps.{EndsAlike, KeepsBlock, Keeps}
+use Rattle.flow_passes.specs.Uses.{NameSet}
+use Rattle.flow_passes.specs.Alike.{ArrivesAlike}
+use Rattle.flow_passes.specs.Keeps.{EndsAlike, Keeps}
 use Rattle.flow_passes.proofs.Walking.{going_alike_keeps_runs}
 use Rattle.expr_fold.specs.declared.delayed.Delayed.{Delayed}
 use Rattle.expr_fold.specs.Delayed.{are_flow_delayed}
 use Rattle.expr_fold.specs.Placed.{placed_word, placed_cond, placed_end}
-use Rattle.expr_fold.specs.Follows.{Behind, DoesBehind, Follows, Sees, Takes, Waits, FollowsFirst}
-use Rattle.expr_fold.specs.Fits.{word_fits, cond_fits}
+use Rattle.expr_fold.specs.Follows.{DoesBehind, Follows, Sees, Takes, Waits, FollowsFirst}
 use Rattle.expr_fold.specs.Folds.{everything, FoldsBlock, FoldsBlocks}
 use Rattle.expr_fold.proofs.Named.{and_true}
 use Rattle.expr_fold.proofs.Placing.{word_named, cond_named}
-use Rattle.expr_fold.proofs.Taking.{rule_more}
-use Rattle.expr_fold.specs.Ends.{EndsWell, end_fits, no_register, leaves_of}
+use Rattle.expr_fold.specs.Ends.{EndsWell, end_fits}
 use Rattle.expr_fold.proofs.Ending.{end_behind}
 
 -- ---- statements one after another

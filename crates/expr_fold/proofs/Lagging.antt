@@ -1,5 +1,5 @@
 -- Names that lag still lag after a step.
-use Rattle.std.proofs.Common.{◌≡◌, ℕ, Bool, true, false, not, ◌&&◌, ◌||◌, ◌⊎◌, inl, inr, List, [], ◌∷◌, ◌++◌, Some, refl, sym, ap, ◌∙◌, subst}
+use Rattle.std.proofs.Common.{◌≡◌, ℕ, true, false, not, ◌||◌, ◌⊎◌, inl, inr, List, [], ◌∷◌, ◌++◌, Some, refl, sym, ap, ◌∙◌}
 use Rattle.std.specs.Prelude.{IsTrue, slice_get, remove}
 use Rattle.dream_words.specs.declared.machine.Name.{Name}
 use Rattle.dream_words.specs.declared.machine.Name.TheVariants as n
@@ -8,7 +8,7 @@ use Rattle.run_parts.specs.World.{Names, with_name, answered}
 use Rattle.c_syntax.specs.declared.syntax.CExpr.{CExpr}
 use Rattle.c_syntax.specs.Value.{word_of}
 use Rattle.micro_ir.specs.Rule.{is_flow_target}
-use Rattle.flow_passes.specs.Uses.{NameSet, same_name, is_register, is_flag, word_reads, cond_reads}
+use Rattle.flow_passes.specs.Uses.{NameSet, same_name, is_register, is_flag}
 use Rattle.flow_passes.specs.Laws.{Within, SameNames}
 use Rattle.flow_passes.proofs.Names.{same_self, answered_same}
 use Rattle.expr_fold.specs.declared.delayed.Delayed.{Delayed}

@@ -1,5 +1,5 @@
 -- Lists of delayed sets that lose some or gain one.
-use Rattle.std.proofs.Common.{◌≡◌, ℕ, zero, suc, Bool, true, false, cond, not, ◌&&◌, ◌||◌, ◌⊎◌, inl, inr, List, [], ◌∷◌, ◌++◌, Option, Some, None, refl, sym, ap, ◌∙◌, subst}
+use Rattle.std.proofs.Common.{◌≡◌, ℕ, zero, suc, Bool, true, false, cond, not, ◌&&◌, ◌||◌, ◌⊎◌, inl, inr, List, [], ◌∷◌, ◌++◌, Some, refl, sym, ap, ◌∙◌, subst}
 use Rattle.std.specs.Prelude.{IsTrue, slice_get, remove, filter}
 use Rattle.dream_words.specs.declared.machine.Name.{Name}
 use Rattle.run_parts.specs.World.{Names, with_name}
@@ -7,11 +7,10 @@ use Rattle.c_syntax.specs.declared.syntax.CExpr.{CExpr}
 use Rattle.c_syntax.specs.Value.{word_of}
 use Rattle.micro_ir.specs.Rule.{is_flow_target, is_flow_word}
 use Rattle.micro_ir.proofs.Values.{both_true}
-use Rattle.flow_passes.specs.Uses.{NameSet, same_name, is_flag, word_reads}
-use Rattle.flow_passes.specs.Laws.{SameNames}
+use Rattle.flow_passes.specs.Uses.{same_name, is_flag, word_reads}
 use Rattle.flow_passes.proofs.Reading.{same_value}
 use Rattle.expr_fold.specs.declared.delayed.Delayed.{Delayed}
-use Rattle.expr_fold.specs.Delayed.{is_delayed, none_reads, without, are_flags, are_flow_delayed, AreHeld}
+use Rattle.expr_fold.specs.Delayed.{is_delayed, none_reads, are_flags, are_flow_delayed, AreHeld}
 use Rattle.expr_fold.proofs.Named.{same_true, true_or_false, or_false, first_false, second_false, and_true, not_true, not_both, set_there}
 
 -- ---- one more

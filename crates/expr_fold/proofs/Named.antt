@@ -1,12 +1,11 @@
 -- Names that are one, and names after one was set.
-use Rattle.std.proofs.Common.{◌≡◌, ℕ, Bool, true, false, cond, not, nat_eq, nat_lt, ◌&&◌, ◌||◌, ◌⊎◌, inl, inr, refl, sym, ap, ◌∙◌, arith, rules}
+use Rattle.std.proofs.Common.{◌≡◌, ℕ, Bool, true, false, cond, not, nat_eq, nat_lt, ◌&&◌, ◌||◌, ◌⊎◌, inl, inr, refl, ap, ◌∙◌, arith, rules}
 use Rattle.std.specs.Prelude.{IsTrue}
 use Rattle.dream_words.specs.declared.machine.Name.{Name}
 use Rattle.dream_words.specs.declared.machine.Name.TheVariants as n
-use Rattle.run_parts.specs.World.{Names, with_name, answered}
-use Rattle.dream_words.specs.declared.outcome.Answer.{Answer}
+use Rattle.run_parts.specs.World.{Names, with_name}
 use Rattle.micro_ir.specs.Rule.{is_flow_target}
-use Rattle.flow_passes.specs.Uses.{same_name, is_register, is_flag}
+use Rattle.flow_passes.specs.Uses.{same_name}
 
 -- numbers that are equal by their test
 pub number_same : (a b : ℕ) → nat_eq a b ≡ true → a ≡ b

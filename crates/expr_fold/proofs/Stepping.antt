@@ -1,5 +1,5 @@
 -- The steps of the pass, by what their parts leave.
-use Rattle.std.proofs.Common.{◌≡◌, ℕ, Bool, true, false, not, nat_le, ◌&&◌, List, [], ◌∷◌, ◌++◌, Some, refl, sym, ap, ◌∙◌, subst}
+use Rattle.std.proofs.Common.{◌≡◌, ℕ, nat_le, List, [], ◌∷◌, ◌++◌, Some, sym, ap, ◌∙◌, subst}
 use Rattle.std.specs.Prelude.{IsTrue, slice_get, remove}
 use Rattle.dream_words.specs.declared.machine.Name.{Name}
 use Rattle.dream_words.specs.declared.machine.Width.{Width}
@@ -7,7 +7,7 @@ use Rattle.c_syntax.specs.declared.syntax.CExpr.{CExpr}
 use Rattle.c_syntax.specs.Depth.{word_depth}
 use Rattle.micro_ir.specs.declared.flow.Stmt.{Stmt}
 use Rattle.micro_ir.specs.declared.flow.Stmt.TheVariants as stmt
-use Rattle.micro_ir.specs.Rule.{is_flow_target, is_flow_word, has_flow_names, is_flow_stmt}
+use Rattle.micro_ir.specs.Rule.{is_flow_target, is_flow_word, has_flow_names}
 use Rattle.c_syntax.specs.Formed.{is_word}
 use Rattle.micro_ir.proofs.Values.{both_true}
 use Rattle.expr_fold.specs.declared.delayed.Delayed.{Delayed}

@@ -1,33 +1,28 @@
 -- What follows old statements still follows after a step of the pass.
-use Rattle.std.proofs.Common.{◌≡◌, ℕ, ◌+◌, Bool, true, not, ◌&&◌, List, [], ◌∷◌, ◌++◌, Some, map, refl, sym, ap, ◌∙◌, subst, arith}
+use Rattle.std.proofs.Common.{◌≡◌, ℕ, ◌+◌, true, List, [], ◌∷◌, ◌++◌, Some, refl, sym, ap, ◌∙◌, subst, arith}
 use Rattle.std.specs.Prelude.{IsTrue, slice_get, remove}
 use Rattle.dream_words.specs.declared.machine.Name.{Name}
 use Rattle.dream_words.specs.declared.machine.Width.{Width}
-use Rattle.dream_words.specs.declared.outcome.Outcome.{Outcome}
 use Rattle.run_parts.specs.Steps.{Next, Halt, Jam, having, then_do}
 use Rattle.run_parts.specs.World.{World, Names}
 use Rattle.run_parts.specs.Effects.{Doing, set_word}
 use Rattle.c_syntax.specs.declared.syntax.CExpr.{CExpr}
-use Rattle.c_syntax.specs.Value.{word_of}
-use Rattle.c_syntax.specs.Depth.{word_depth}
 use Rattle.micro_ir.specs.declared.flow.Stmt.{Stmt}
 use Rattle.micro_ir.specs.declared.flow.Stmt.TheVariants as stmt
 use Rattle.micro_ir.specs.Rule.{is_flow_target, is_flow_word, is_flow_stmt, are_flow_stmts}
 use Rattle.micro_ir.specs.Run.{stmt_does, stmts_do}
-use Rattle.micro_ir.specs.World.{IsWorld}
 use Rattle.micro_ir.specs.Counts.{stores_of_stmt, stores_of_stmts, calls_of_stmt, calls_of_stmts}
 use Rattle.micro_ir.proofs.Values.{both_true}
-use Rattle.flow_passes.specs.Uses.{NameSet, stmt_reads, stmt_sets}
-use Rattle.flow_passes.specs.Alike.{Alike}
+use Rattle.flow_passes.specs.Uses.{NameSet}
 use Rattle.flow_passes.specs.Keeps.{loads_of_stmt, loads_of_stmts}
 use Rattle.expr_fold.specs.declared.delayed.Delayed.{Delayed}
 use Rattle.expr_fold.specs.Delayed.{none_reads, without, are_flags, are_flow_delayed}
 use Rattle.expr_fold.specs.Placed.{placed_word, placed_stmt}
-use Rattle.expr_fold.specs.Follows.{Lags, Behind, DoesBehind, Follows, Waits, Sees, Takes}
+use Rattle.expr_fold.specs.Follows.{Lags, Behind, DoesBehind, Follows, Waits, Takes}
 use Rattle.expr_fold.proofs.Named.{and_true}
 use Rattle.expr_fold.proofs.Lists.{rule_append, filter_rule, pick_rule}
 use Rattle.expr_fold.proofs.Lagging.{lag_set, set_value, lag_back}
-use Rattle.expr_fold.proofs.Doing.{behind_names, behind_by, store_behind, trap_does, load_behind, ext_behind, delay_behind}
+use Rattle.expr_fold.proofs.Doing.{behind_names, store_behind, trap_does, load_behind, ext_behind, delay_behind}
 
 -- ---- one more statement
 

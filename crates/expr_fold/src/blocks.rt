@@ -10,7 +10,8 @@ ghost use Rattle.expr_fold.specs.Adds.{AddsFolded};
 
 use crate::delayed::Delayed;
 use crate::folding::{DEPTH, Folding};
-use crate::{names, placed, policy};
+use crate::{fits, placed, policy};
+use flow_passes::is_register;
 use micro_ir::{Block, End, Stmt};
 use sqlite_items::Items;
 use std::alloc::{AllocError, Global};
@@ -51,10 +52,10 @@ fn end_fits(e: &End) -> bool
 {
     match e {
         End::Go(_) => true,
-        End::Branch(t, _, _) => names::cond_fits(t, DEPTH),
-        End::Switch(e, _) => names::word_fits(e, DEPTH),
+        End::Branch(t, _, _) => fits::cond_fits(t, DEPTH),
+        End::Switch(e, _) => fits::word_fits(e, DEPTH),
         End::Return => true,
-        End::Leave(e) => names::word_fits(e, DEPTH),
+        End::Leave(e) => fits::word_fits(e, DEPTH),
     }
 }
 
@@ -63,7 +64,7 @@ fn has_no_register(delayed: &[Delayed]) -> bool
     ensures { result ≡ no_register delayed.now }
 {
     for d in delayed {
-        if names::is_register(d.name) {
+        if is_register(d.name) {
             return false;
         }
     }

@@ -6,8 +6,9 @@ ghost use Rattle.expr_fold.specs.Delayed.{is_delayed, none_reads, without, are_f
 ghost use Rattle.expr_fold.specs.Follows.{Waits, Takes};
 
 use crate::delayed::Delayed;
-use crate::{names, placed};
+use crate::{fits, placed};
 use dream_words::{Name, Width};
+use flow_passes::{is_flag, same_name, word_reads};
 use micro_ir::{Expr, Stmt};
 use sqlite_items::Items;
 use std::alloc::{AllocError, Global};
@@ -27,7 +28,7 @@ fn none_reads(delayed: &[Delayed], n: Name) -> bool
     ensures { result ≡ none_reads delayed.now n }
 {
     for d in delayed {
-        if names::word_reads(&d.word, n) {
+        if word_reads(&d.word, n) {
             return false;
         }
     }
@@ -39,7 +40,7 @@ fn are_flags(delayed: &[Delayed]) -> bool
     ensures { result ≡ are_flags delayed.now }
 {
     for d in delayed {
-        if !names::is_flag(d.name) {
+        if !is_flag(d.name) {
             return false;
         }
     }
@@ -90,7 +91,7 @@ impl Folding {
         ensures delayed { self.new.delayed.items ≡ without n self.old.delayed.items }
         ensures done { self.new.done ≡ self.old.done }
     {
-        self.delayed.retain(|d| !names::same_name(d.name, n));
+        self.delayed.retain(|d| !same_name(d.name, n));
     }
 
     /// Does a delayed set now, unless another delayed word reads its name.
@@ -114,7 +115,7 @@ impl Folding {
         ensures { IfOk result (λ b. IsTrue b → Takes (stmt.Set n e.now) self.old.done self.old.delayed.items self.new.done self.new.delayed.items) }
     {
         let word = placed::word(alloc, &self.delayed, e)?;
-        if !names::word_fits(&word, DEPTH) {
+        if !fits::word_fits(&word, DEPTH) {
             return Ok(false);
         }
         self.forget(n);
@@ -133,7 +134,7 @@ impl Folding {
         ensures { IfOk result (λ b. IsTrue b → Takes (stmt.Load n width e.now) self.old.done self.old.delayed.items self.new.done self.new.delayed.items) }
     {
         let word = placed::word(alloc, &self.delayed, e)?;
-        if !names::word_fits(&word, DEPTH) {
+        if !fits::word_fits(&word, DEPTH) {
             return Ok(false);
         }
         self.forget(n);
@@ -156,10 +157,10 @@ impl Folding {
     {
         let place = placed::word(alloc, &self.delayed, e)?;
         let word = placed::word(alloc, &self.delayed, f)?;
-        if !names::word_fits(&place, DEPTH) {
+        if !fits::word_fits(&place, DEPTH) {
             return Ok(false);
         }
-        if !names::word_fits(&word, DEPTH) {
+        if !fits::word_fits(&word, DEPTH) {
             return Ok(false);
         }
         self.perform(Stmt::Store(width, place, word))?;
@@ -172,7 +173,7 @@ impl Folding {
         ensures { IfOk result (λ b. IsTrue b → Takes (stmt.Ext e.now) self.old.done self.old.delayed.items self.new.done self.new.delayed.items) }
     {
         let word = placed::word(alloc, &self.delayed, e)?;
-        if !names::word_fits(&word, DEPTH) {
+        if !fits::word_fits(&word, DEPTH) {
             return Ok(false);
         }
         if !are_flags(&self.delayed) {
@@ -188,7 +189,7 @@ impl Folding {
         ensures { IfOk result (λ b. IsTrue b → Takes (stmt.Trap vector e.now) self.old.done self.old.delayed.items self.new.done self.new.delayed.items) }
     {
         let word = placed::word(alloc, &self.delayed, e)?;
-        if !names::word_fits(&word, DEPTH) {
+        if !fits::word_fits(&word, DEPTH) {
             return Ok(false);
         }
         self.perform(Stmt::Trap(vector, word))?;

@@ -5,9 +5,9 @@
 
 mod blocks;
 mod delayed;
+mod fits;
 mod flows;
 mod folding;
-mod names;
 mod placed;
 mod policy;
 mod uses;

@@ -4,10 +4,10 @@ ghost use Rattle.std.specs.Prelude.{◌≡◌, drop, IfOk};
 ghost use Rattle.expr_fold.specs.Placed.{stands_for, placed_word, placed_cond};
 
 use crate::delayed::Delayed;
-use crate::names::same_name;
 use c_syntax::{CCond, CExpr};
 use c_words::copy_word;
 use dream_words::Name;
+use flow_passes::same_name;
 use sqlite_items::Boxed;
 use std::alloc::{AllocError, Global};
 

@@ -5,8 +5,9 @@ ghost use Rattle.expr_fold.specs.Follows.{Waits, Takes};
 
 use crate::delayed::Delayed;
 use crate::folding::Folding;
-use crate::{names, uses};
+use crate::uses;
 use dream_words::Name;
+use flow_passes::{is_flag, is_register, same_name, word_reads};
 use micro_ir::{Expr, Stmt};
 use std::alloc::{AllocError, Global};
 
@@ -22,7 +23,7 @@ const SMALL: u32 = 2;
 /// Names among some.
 fn has(names: &[Name], n: Name) -> bool {
     for m in names {
-        if names::same_name(*m, n) {
+        if same_name(*m, n) {
             return true;
         }
     }
@@ -32,7 +33,7 @@ fn has(names: &[Name], n: Name) -> bool {
 /// A word reads one of some names.
 fn reads_one(e: &Expr, names: &[Name]) -> bool {
     for m in names {
-        if names::word_reads(e, *m) {
+        if word_reads(e, *m) {
             return true;
         }
     }
@@ -77,7 +78,7 @@ fn set_chosen(folding: &mut Folding, chosen: Vec<Name>) -> Result<(), AllocError
 fn readers(alloc: Global, delayed: &[Delayed], n: Name) -> Result<Vec<Name>, AllocError> {
     let mut names = Vec::new(alloc);
     for d in delayed {
-        if !names::same_name(d.name, n) && names::word_reads(&d.word, n) {
+        if !same_name(d.name, n) && word_reads(&d.word, n) {
             names.push(d.name)?;
         }
     }
@@ -88,7 +89,7 @@ fn readers(alloc: Global, delayed: &[Delayed], n: Name) -> Result<Vec<Name>, All
 fn unflagged(alloc: Global, delayed: &[Delayed]) -> Result<Vec<Name>, AllocError> {
     let mut names = Vec::new(alloc);
     for d in delayed {
-        if !names::is_flag(d.name) {
+        if !is_flag(d.name) {
             names.push(d.name)?;
         }
     }
@@ -99,7 +100,7 @@ fn unflagged(alloc: Global, delayed: &[Delayed]) -> Result<Vec<Name>, AllocError
 fn registers(alloc: Global, delayed: &[Delayed]) -> Result<Vec<Name>, AllocError> {
     let mut names = Vec::new(alloc);
     for d in delayed {
-        if names::is_register(d.name) {
+        if is_register(d.name) {
             names.push(d.name)?;
         }
     }
@@ -119,7 +120,7 @@ fn all(alloc: Global, delayed: &[Delayed]) -> Result<Vec<Name>, AllocError> {
 fn large_in(alloc: Global, delayed: &[Delayed], e: &Expr) -> Result<Vec<Name>, AllocError> {
     let mut names = Vec::new(alloc);
     for d in delayed {
-        if uses::word_size(&d.word) > LARGEST && names::word_reads(e, d.name) {
+        if uses::word_size(&d.word) > LARGEST && word_reads(e, d.name) {
             names.push(d.name)?;
         }
     }
@@ -140,10 +141,10 @@ fn before(alloc: Global, delayed: &[Delayed], s: &Stmt) -> Result<Vec<Name>, All
 /// A set of a name to a word is done at once, where the next statements are given.
 fn is_done_now(n: Name, word: &Expr, rest: &[Stmt]) -> bool {
     let size = uses::word_size(word);
-    if size <= SMALL || names::is_flag(n) {
+    if size <= SMALL || is_flag(n) {
         return size > LARGEST;
     }
-    size > LARGEST || names::is_register(n) || uses::reads_ahead(rest, n) > 1
+    size > LARGEST || is_register(n) || uses::reads_ahead(rest, n) > 1
 }
 
 /// The names to be set after a statement was taken.

@@ -1,8 +1,8 @@
 //! How often names are read: what the choice rests on which words to put in place. No promise depends on it.
 
-use crate::names::{is_flag, is_register, same_name};
 use c_syntax::{CCond, CExpr};
 use dream_words::Name;
+use flow_passes::{is_flag, is_register, same_name};
 use micro_ir::Stmt;
 
 /// How many statements are looked at.

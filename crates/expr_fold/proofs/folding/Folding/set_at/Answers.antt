@@ -1,7 +1,6 @@
 use Rattle.std.proofs.Common.{◌≡◌, ◌++◌, [], ◌∷◌, true, sym, ap, ◌∙◌, rules}
 use Rattle.micro_ir.specs.declared.flow.Stmt.TheVariants as stmt
-use Rattle.expr_fold.specs.Delayed.{none_reads, are_flags}
-use Rattle.expr_fold.specs.Placed.{placed_word}
+use Rattle.expr_fold.specs.Delayed.{none_reads}
 use Rattle.expr_fold.proofs.Stepping.{step_set, step_back}
 use Rattle.expr_fold.proofs.folding.Folding.set_at.Goals as goal
 

@@ -1,6 +1,4 @@
-use Rattle.std.proofs.Common.{◌≡◌, ◌++◌, [], ◌∷◌, true, sym, ap, ◌∙◌, rules}
-use Rattle.micro_ir.specs.declared.flow.Stmt.TheVariants as stmt
-use Rattle.expr_fold.specs.Delayed.{none_reads, are_flags}
+use Rattle.std.proofs.Common.{◌≡◌, true, sym, ap, ◌∙◌, rules}
 use Rattle.expr_fold.specs.Placed.{placed_word}
 use Rattle.expr_fold.proofs.Stepping.{step_take_store}
 use Rattle.expr_fold.proofs.folding.Folding.take_store.Goals as goal
