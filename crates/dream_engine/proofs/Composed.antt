@@ -25,7 +25,6 @@ use Rattle.flow_graph.specs.Place.{HasNoPlace}
 use Rattle.range_flow.specs.Flow.{AreCovering, IsFlowOf}
 use Rattle.range_flow.proofs.RangePlan.{flows_agree}
 use Rattle.flow_passes.specs.Keeps.{Keeps, JoinsRuns}
-use Rattle.flow_passes.proofs.Keeping.{keeping_composes}
 use Rattle.flow_passes.proofs.Agreed.{changed_agree}
 use Rattle.regions.specs.Follows.{Follows}
 use Rattle.regions.proofs.Agreed.{following}
@@ -37,12 +36,11 @@ use Rattle.dream_engine.specs.Short.{IsShortOf}
 use Rattle.dream_engine.specs.Tree.{IsPlannedOf, IsTreeIn}
 
 -- a flow that keeps what joins another is short for that
-pub short_of : (f joined cleaned folded short : Flow) → IsGiven short → JoinsRuns f joined → Keeps joined cleaned → Keeps cleaned folded → Keeps folded short → IsShortOf f short
-short_of f joined cleaned folded short given joins first second third = record {
+pub short_of : (f joined short : Flow) → IsGiven short → JoinsRuns f joined → Keeps joined short → IsShortOf f short
+short_of f joined short given joins keeps = record {
   given = given;
   agrees = λ machine start answers r a.
-      let kept = keeping_composes.twice joined folded short (keeping_composes.twice joined cleaned folded first second) third in
-      changed_agree.kept machine joined short start answers r kept.runs (changed_agree.joined machine f joined start answers joins a);
+      changed_agree.kept machine joined short start answers r keeps.runs (changed_agree.joined machine f joined start answers joins a);
 }
 
 -- the machine agrees with a flow that is short for that of the range

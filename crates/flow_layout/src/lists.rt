@@ -569,16 +569,31 @@ impl<'a> Lister<'a> {
         let mut two = Items::new(self.alloc);
         let mut behind = self.choose(by, rest, room - 1, &mut two)?;
         if after.is_empty() {
-            self.test_any(plan, values, one, Items::new(self.alloc))?;
+            self.decide(plan, by, values, one, Items::new(self.alloc))?;
             plan.append(two)?;
         } else {
-            self.test_any(plan, values, one, two)?;
+            self.decide(plan, by, values, one, two)?;
         }
         add_all(&mut behind, &after)?;
         Ok(behind)
     }
 
-    /// The values to test for a group.
+    /// The test for a group, with its two plans.
+    fn decide(
+        &mut self,
+        plan: &mut Items<Plan>,
+        by: By,
+        values: Items<Value>,
+        first: Items<Plan>,
+        second: Items<Plan>,
+    ) -> Result<(), AllocError> {
+        match by {
+            By::Word(_) => self.test_any(plan, values, first, second),
+            By::Selector(_) => self.test(plan, value(WAY, 1), first, second),
+        }
+    }
+
+    /// The values to test for a group by a word; by a selector a local tells whether it has the number.
     fn tested(
         &mut self,
         by: By,
@@ -602,7 +617,6 @@ impl<'a> Lister<'a> {
                     value: number,
                 };
                 plan.push(Plan::Pick(way(WAY, 1, 0), of))?;
-                tested.push(value(WAY, 1))?;
             }
         }
         Ok(tested)
