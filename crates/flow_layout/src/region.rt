@@ -47,6 +47,26 @@ pub(crate) enum Out {
 }
 
 impl Out {
+    /// Whether more than one of its edges leads to an item.
+    pub(crate) fn leads_twice(&self, item: usize) -> bool {
+        match self {
+            Out::Stops | Out::Go(_) => false,
+            Out::Branch(a, b) => leads_to(*a, item) && leads_to(*b, item),
+            Out::Switch(groups) | Out::Select(_, groups) => {
+                let mut found = false;
+                for group in groups {
+                    if leads_to(group.target, item) {
+                        if found {
+                            return true;
+                        }
+                        found = true;
+                    }
+                }
+                false
+            }
+        }
+    }
+
     /// Adds the items to which it leads.
     pub(crate) fn add_items(&self, items: &mut Vec<usize>) -> Result<(), AllocError> {
         match self {
@@ -63,6 +83,14 @@ impl Out {
                 Ok(())
             }
         }
+    }
+}
+
+/// Whether an edge leads to an item.
+fn leads_to(target: Target, item: usize) -> bool {
+    match target {
+        Target::Inner(k, _) => k == item,
+        Target::Head(_) | Target::Exit(_) => false,
     }
 }
 
@@ -90,6 +118,14 @@ impl Region {
         Region {
             items: Vec::new(alloc),
             outs: Vec::new(alloc),
+        }
+    }
+
+    /// Whether an item leads to another one by more than one edge.
+    pub(crate) fn leads_twice(&self, item: usize, next: usize) -> bool {
+        match self.outs.get(item) {
+            None => false,
+            Some(out) => out.leads_twice(next),
         }
     }
 
