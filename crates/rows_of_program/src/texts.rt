@@ -198,6 +198,8 @@ fn decompiles_in_two_forms(rt: HostRuntime) -> Result<(), Fail> {
     Ok(())
 }
 
+// Of 500 functions 63 are a cycle that is entered twice, and 54 are nests of two loops or more, which are one component with
+// as many heads: each of these has a selector.
 #[test]
 fn tells_of_drills(rt: HostRuntime) -> Result<(), Fail> {
     let alloc = rt.alloc();
@@ -206,7 +208,7 @@ fn tells_of_drills(rt: HostRuntime) -> Result<(), Fail> {
     assert!(rt; ran.status == Status::Done);
     assert_eq!(rt;
         ran.out.bytes(),
-        b"functions=500 bytes=10060 accepted=500 components=188 selectors=63 ext=62 stores=124\n".as_slice()
+        b"functions=500 bytes=10060 accepted=500 components=188 selectors=117 ext=62 stores=124\n".as_slice()
     );
     assert_eq!(rt; ran.notes.bytes().len(), 0);
     assert_eq!(rt; make_drill(alloc, 500)?.len(), 10_888);
