@@ -1,7 +1,7 @@
 use Rattle.std.proofs.Common.{◌≡◌, subst, sym}
 use Rattle.micro_ir.specs.Rule.{IsGiven}
-use Rattle.rows_of_program.proofs.Worked.{pair_flow, pair_given}
-use Rattle.rows_of_program.proofs.trees.pair.Goals as goal
+use Rattle.rows_of_flows.proofs.Worked.{pair_flow, pair_given}
+use Rattle.rows_of_flows.proofs.trees.pair.Goals as goal
 
 pub returns : goal.returns
 returns c =
