@@ -2,19 +2,33 @@
 
 ghost use Rattle.std.specs.Prelude.{IfOk};
 ghost use Rattle.dream_engine.specs.Short.{IsShortOf};
+ghost use Rattle.flow_passes.specs.Keeps.{Keeps};
 ghost use Rattle.micro_ir.specs.Rule.{IsGiven};
 
+use expr_fold::fold;
 use flag_liveness::clean;
 use flow_stretches::join_stretches;
 use micro_ir::Flow;
 use std::alloc::{AllocError, Global};
 
-/// The flow with its blocks joined, and without what nothing sees.
+/// The flow with words in place: without what nothing sees, before as after.
+fn folded(alloc: Global, f: Flow) -> Result<Flow, AllocError>
+    requires given { IsGiven f }
+    ensures given { IfOk result IsGiven }
+    ensures keeps { IfOk result (Keeps f) }
+{
+    let seen = clean(alloc, f)?;
+    let in_place = fold(alloc, seen)?;
+    let short = clean(alloc, in_place)?;
+    Ok(short)
+}
+
+/// The flow with its blocks joined, with words in place, and without what nothing sees.
 pub fn shortened(alloc: Global, f: Flow) -> Result<Flow, AllocError>
     requires given { IsGiven f }
     ensures { IfOk result (IsShortOf f) }
 {
     let joined = join_stretches(alloc, f)?;
-    let short = clean(alloc, joined)?;
+    let short = folded(alloc, joined)?;
     Ok(short)
 }
