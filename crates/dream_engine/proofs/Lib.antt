@@ -1,1 +1,2 @@
-mod Composed
+pub mod Composed
+pub mod Settling

@@ -6,12 +6,13 @@ ghost use Rattle.flow_passes.specs.Keeps.{Keeps};
 ghost use Rattle.micro_ir.specs.Rule.{IsGiven};
 
 use expr_fold::fold;
+use expr_rewrite::rewrite_flow;
 use flag_liveness::clean;
 use flow_stretches::join_stretches;
 use micro_ir::Flow;
 use std::alloc::{AllocError, Global};
 
-/// The flow with words in place: without what nothing sees, before as after.
+/// The flow with words in place, and these rewritten: without what nothing sees, before as after.
 fn folded(alloc: Global, f: Flow) -> Result<Flow, AllocError>
     requires given { IsGiven f }
     ensures given { IfOk result IsGiven }
@@ -19,11 +20,12 @@ fn folded(alloc: Global, f: Flow) -> Result<Flow, AllocError>
 {
     let seen = clean(alloc, f)?;
     let in_place = fold(alloc, seen)?;
-    let short = clean(alloc, in_place)?;
+    let rewritten = rewrite_flow(alloc, in_place)?;
+    let short = clean(alloc, rewritten)?;
     Ok(short)
 }
 
-/// The flow with its blocks joined, with words in place, and without what nothing sees.
+/// The flow with its blocks joined, with words in place that read better, and without what nothing sees.
 pub fn shortened(alloc: Global, f: Flow) -> Result<Flow, AllocError>
     requires given { IsGiven f }
     ensures { IfOk result (IsShortOf f) }
