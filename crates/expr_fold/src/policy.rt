@@ -1,6 +1,6 @@
 //! Which sets are delayed, and for how long. Each choice is right; these are the ones that leave few and short statements.
 
-ghost use Rattle.std.specs.Prelude.{◌<◌, length, IsTrue, OnOk, IfOk};
+ghost use Rattle.std.specs.Prelude.{◌<◌, length, IsTrue, OnOk, IfOk, IfSome};
 ghost use Rattle.expr_fold.specs.Follows.{Waits, Takes};
 
 use crate::delayed::Delayed;
@@ -51,25 +51,42 @@ fn with_readers(delayed: &[Delayed], chosen: Vec<Name>) -> Result<Vec<Name>, All
     Ok(chosen)
 }
 
-/// A delayed set is at a place, and its name among some.
-fn is_chosen(delayed: &[Delayed], at: usize, chosen: &[Name]) -> bool
-    ensures { IsTrue result → at < length delayed.now }
-{
-    match delayed.get(at) {
-        None => false,
-        Some(d) => has(chosen, d.name),
+/// No other delayed word reads the name of the set at a place.
+fn is_free(delayed: &[Delayed], at: usize, n: Name) -> bool {
+    for (i, d) in delayed.iter().enumerate() {
+        if i != at && word_reads(&d.word, n) {
+            return false;
+        }
     }
+    true
 }
 
-/// Does the delayed sets of some names, and of those that read them, the last first.
+/// The place of the oldest delayed set of some names whose name no other delayed word reads; where each is read, the last.
+fn next_chosen(delayed: &[Delayed], chosen: &[Name]) -> Option<usize>
+    ensures { IfSome result (λ at. at < length delayed.now) }
+{
+    let mut last = None;
+    for (at, d) in delayed.iter().enumerate() {
+        if has(chosen, d.name) {
+            if is_free(delayed, at, d.name) {
+                return Some(at);
+            }
+            last = Some(at);
+        }
+    }
+    last
+}
+
+/// Does the delayed sets of some names, and of those that read them, the oldest first wherever that is possible.
 fn set_chosen(folding: &mut Folding, chosen: Vec<Name>) -> Result<(), AllocError>
     ensures { OnOk result (Waits folding.old.done folding.old.delayed.items folding.new.done folding.new.delayed.items) }
 {
     let chosen = with_readers(&folding.delayed, chosen)?;
-    for at in (0..folding.delayed.len()).rev() {
-        if is_chosen(&folding.delayed, at, &chosen) {
-            folding.set_at(at)?;
-        }
+    for _turn in 0..folding.delayed.len() {
+        let Some(at) = next_chosen(&folding.delayed, &chosen) else {
+            return Ok(());
+        };
+        folding.set_at(at)?;
     }
     Ok(())
 }
