@@ -1,8 +1,9 @@
 -- When one block more stands last.
 use Rattle.std.specs.Prelude.{◌≡◌, ℕ, List, [], ◌∷◌, ◌++◌}
 use Rattle.micro_ir.specs.declared.flow.Block.{Block}
-use Rattle.expr_fold.specs.Folds.{everything, FoldsBlock}
+use Rattle.flow_passes.specs.Uses.{NameSet}
+use Rattle.expr_fold.specs.Folds.{LivesAt, FoldsBlock}
 
 -- the new list has one block more, a block with words in place
-abbrev pub AddsFolded : Block → List Block → List Block → Type 0
-AddsFolded b old new = (c : Block) × (new ≡ old ++ c ∷ []) × ((k : ℕ) → FoldsBlock (λ j. everything) k b c)
+abbrev pub AddsFolded : (ℕ → NameSet) → Block → List Block → List Block → Type 0
+AddsFolded live b old new = (c : Block) × (new ≡ old ++ c ∷ []) × ((k : ℕ) → LivesAt live k b → FoldsBlock live k b c)

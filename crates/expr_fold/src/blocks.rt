@@ -2,16 +2,17 @@
 
 ghost use Rattle.std.specs.Prelude.{◌≡◌, ℕ, [], length, true, IsTrue, IfOk, IfSome};
 ghost use Rattle.micro_ir.specs.Rule.{is_flow_block, are_flow_blocks};
+ghost use Rattle.flag_liveness.specs.Lives.{live_of};
 ghost use Rattle.expr_fold.specs.Placed.{placed_end};
 ghost use Rattle.expr_fold.specs.Follows.{FollowsFirst};
-ghost use Rattle.expr_fold.specs.Ends.{end_fits, no_register, leaves_of, may_end};
-ghost use Rattle.expr_fold.specs.Folds.{everything, FoldsBlock, FoldsBlocks};
+ghost use Rattle.expr_fold.specs.Ends.{end_fits, none_seen_after};
+ghost use Rattle.expr_fold.specs.Folds.{LivesAt, LivesIn, FoldsBlock, FoldsBlocks};
 ghost use Rattle.expr_fold.specs.Adds.{AddsFolded};
 
 use crate::delayed::Delayed;
 use crate::folding::{DEPTH, Folding};
-use crate::{fits, placed, policy};
-use flow_passes::is_register;
+use crate::{ends, fits, placed, policy};
+use flag_liveness::Live;
 use micro_ir::{Block, End, Stmt};
 use sqlite_items::Items;
 use std::alloc::{AllocError, Global};
@@ -59,61 +60,30 @@ fn end_fits(e: &End) -> bool
     }
 }
 
-/// No register is delayed.
-fn has_no_register(delayed: &[Delayed]) -> bool
-    ensures { result ≡ no_register delayed.now }
-{
-    for d in delayed {
-        if is_register(d.name) {
-            return false;
-        }
-    }
-    true
-}
-
-/// An end leaves the function.
-fn leaves(e: &End) -> bool
-    ensures { result ≡ leaves_of e.now }
-{
-    match e {
-        End::Go(_) => false,
-        End::Branch(_, _, _) => false,
-        End::Switch(_, _) => false,
-        End::Return => true,
-        End::Leave(_) => true,
-    }
-}
-
-/// What is delayed may be dropped at an end.
-fn may_end(delayed: &[Delayed], e: &End) -> bool
-    ensures { result ≡ may_end e.now delayed.now }
-{
-    if leaves(e) {
-        has_no_register(delayed)
-    } else {
-        delayed.len() == 0
-    }
-}
-
 /// The statements of a block, with what may be seen after its end. None where they can't be taken.
-fn closed(alloc: Global, b: &Block) -> Result<Option<Folding>, AllocError>
+fn closed(alloc: Global, live: &Live, b: &Block) -> Result<Option<Folding>, AllocError>
     ensures { IfOk result (λ o. IfSome o (λ g. FollowsFirst b.now.stmts (length b.now.stmts) g.done g.delayed.items)) }
 {
     let Some(folding) = statements(alloc, b.stmts.as_slice())? else {
         return Ok(None);
     };
     let mut folding = folding;
-    policy::close(&mut folding, alloc, leaves(&b.end))?;
+    policy::close(&mut folding, alloc, live, &b.end)?;
     Ok(Some(folding))
 }
 
 /// An end with delayed words in place. None where its words are too deep, or what is delayed may be seen after it.
-fn ended(alloc: Global, delayed: &[Delayed], e: &End) -> Result<Option<End>, AllocError>
+fn ended(
+    alloc: Global,
+    live: &Live,
+    delayed: &[Delayed],
+    e: &End,
+) -> Result<Option<End>, AllocError>
     ensures placed { IfOk result (λ o. IfSome o (λ r. r ≡ placed_end delayed.now e.now)) }
     ensures fits { IfOk result (λ o. IfSome o (λ r. IsTrue (end_fits r))) }
-    ensures unseen { IfOk result (λ o. IfSome o (λ r. IsTrue (may_end e.now delayed.now))) }
+    ensures unseen { IfOk result (λ o. IfSome o (λ r. IsTrue (none_seen_after e.now (live_of live.now) delayed.now))) }
 {
-    if !may_end(delayed, e) {
+    if !ends::none_seen_after(live, e, delayed) {
         return Ok(None);
     }
     let end = placed_end(alloc, delayed, e)?;
@@ -124,14 +94,14 @@ fn ended(alloc: Global, delayed: &[Delayed], e: &End) -> Result<Option<End>, All
 }
 
 /// A block with words in place. None where that can't be.
-fn block(alloc: Global, b: &Block) -> Result<Option<Block>, AllocError>
+fn block(alloc: Global, live: &Live, b: &Block) -> Result<Option<Block>, AllocError>
     requires { IsTrue (is_flow_block b.now) }
-    ensures { IfOk result (λ o. IfSome o (λ c. (k : ℕ) → FoldsBlock (λ j. everything) k b.now c)) }
+    ensures { IfOk result (λ o. IfSome o (λ c. (k : ℕ) → LivesAt (live_of live.now) k b.now → FoldsBlock (live_of live.now) k b.now c)) }
 {
-    let Some(folding) = closed(alloc, b)? else {
+    let Some(folding) = closed(alloc, live, b)? else {
         return Ok(None);
     };
-    let Some(end) = ended(alloc, &folding.delayed, &b.end)? else {
+    let Some(end) = ended(alloc, live, &folding.delayed, &b.end)? else {
         return Ok(None);
     };
     Ok(Some(Block {
@@ -142,11 +112,16 @@ fn block(alloc: Global, b: &Block) -> Result<Option<Block>, AllocError>
 }
 
 /// Adds a block with words in place. False where that can't be.
-fn add_block(alloc: Global, b: &Block, made: &mut Items<Block>) -> Result<bool, AllocError>
+fn add_block(
+    alloc: Global,
+    live: &Live,
+    b: &Block,
+    made: &mut Items<Block>,
+) -> Result<bool, AllocError>
     requires { IsTrue (is_flow_block b.now) }
-    ensures { IfOk result (λ is. IsTrue is → AddsFolded b.now made.old made.new) }
+    ensures { IfOk result (λ is. IsTrue is → AddsFolded (live_of live.now) b.now made.old made.new) }
 {
-    let Some(c) = block(alloc, b)? else {
+    let Some(c) = block(alloc, live, b)? else {
         return Ok(false);
     };
     made.push(c)?;
@@ -154,13 +129,18 @@ fn add_block(alloc: Global, b: &Block, made: &mut Items<Block>) -> Result<bool, 
 }
 
 /// Blocks with words in place. None where that can't be.
-pub(crate) fn blocks(alloc: Global, all: &[Block]) -> Result<Option<Items<Block>>, AllocError>
-    requires { IsTrue (are_flow_blocks all.now) }
-    ensures { IfOk result (λ o. IfSome o (λ cs. FoldsBlocks (λ j. everything) 0 all.now cs)) }
+pub(crate) fn blocks(
+    alloc: Global,
+    live: &Live,
+    all: &[Block],
+) -> Result<Option<Items<Block>>, AllocError>
+    requires rule { IsTrue (are_flow_blocks all.now) }
+    requires lives { LivesIn (live_of live.now) all.now }
+    ensures { IfOk result (λ o. IfSome o (λ cs. FoldsBlocks (live_of live.now) 0 all.now cs)) }
 {
     let mut made = Items::new(alloc);
     for b in all {
-        if !add_block(alloc, b, &mut made)? {
+        if !add_block(alloc, live, b, &mut made)? {
             return Ok(None);
         }
     }

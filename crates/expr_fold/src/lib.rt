@@ -5,11 +5,13 @@
 
 mod blocks;
 mod delayed;
+mod ends;
 mod fits;
 mod flows;
 mod folding;
 mod placed;
 mod policy;
+mod seen;
 mod uses;
 
 pub use flows::fold;

@@ -5,10 +5,11 @@ ghost use Rattle.expr_fold.specs.Follows.{Waits, Takes};
 
 use crate::delayed::Delayed;
 use crate::folding::Folding;
-use crate::uses;
+use crate::{ends, fits, uses};
 use dream_words::Name;
-use flow_passes::{is_flag, is_register, same_name, word_reads};
-use micro_ir::{Expr, Stmt};
+use flag_liveness::Live;
+use flow_passes::{cond_reads, is_flag, is_register, same_name, word_reads};
+use micro_ir::{End, Expr, Stmt};
 use std::alloc::{AllocError, Global};
 
 /// How many sets are delayed at most.
@@ -16,6 +17,9 @@ const MOST_DELAYED: usize = 20;
 
 /// How many parts a word has at most that stands in place.
 const LARGEST: u32 = 60;
+
+/// How deep a word nests at most that stands in place, so that what it stands in is no deeper than a flow allows.
+const DEEPEST: u32 = 40;
 
 /// How many parts a small word has at most.
 const SMALL: u32 = 2;
@@ -113,31 +117,16 @@ fn unflagged(alloc: Global, delayed: &[Delayed]) -> Result<Vec<Name>, AllocError
     Ok(names)
 }
 
-/// The delayed registers.
-fn registers(alloc: Global, delayed: &[Delayed]) -> Result<Vec<Name>, AllocError> {
-    let mut names = Vec::new(alloc);
-    for d in delayed {
-        if is_register(d.name) {
-            names.push(d.name)?;
-        }
-    }
-    Ok(names)
-}
-
-/// All delayed names.
-fn all(alloc: Global, delayed: &[Delayed]) -> Result<Vec<Name>, AllocError> {
-    let mut names = Vec::new(alloc);
-    for d in delayed {
-        names.push(d.name)?;
-    }
-    Ok(names)
+/// A word is too large or too deep to stand in place.
+fn is_large(e: &Expr) -> bool {
+    uses::word_size(e) > LARGEST || !fits::word_fits(e, DEEPEST)
 }
 
 /// The delayed names with large words that a word reads.
 fn large_in(alloc: Global, delayed: &[Delayed], e: &Expr) -> Result<Vec<Name>, AllocError> {
     let mut names = Vec::new(alloc);
     for d in delayed {
-        if uses::word_size(&d.word) > LARGEST && word_reads(e, d.name) {
+        if is_large(&d.word) && word_reads(e, d.name) {
             names.push(d.name)?;
         }
     }
@@ -157,11 +146,13 @@ fn before(alloc: Global, delayed: &[Delayed], s: &Stmt) -> Result<Vec<Name>, All
 
 /// A set of a name to a word is done at once, where the next statements are given.
 fn is_done_now(n: Name, word: &Expr, rest: &[Stmt]) -> bool {
-    let size = uses::word_size(word);
-    if size <= SMALL || is_flag(n) {
-        return size > LARGEST;
+    if is_large(word) {
+        return true;
     }
-    size > LARGEST || is_register(n) || uses::reads_ahead(rest, n) > 1
+    if uses::word_size(word) <= SMALL || is_flag(n) {
+        return false;
+    }
+    is_register(n) || uses::reads_ahead(rest, n) > 1
 }
 
 /// The names to be set after a statement was taken.
@@ -205,17 +196,43 @@ pub(crate) fn step(
     Ok(true)
 }
 
+/// An end reads a name.
+fn end_reads(e: &End, n: Name) -> bool {
+    match e {
+        End::Go(_) => false,
+        End::Branch(t, _, _) => cond_reads(t, n),
+        End::Switch(e, _) => word_reads(e, n),
+        End::Return => false,
+        End::Leave(e) => word_reads(e, n),
+    }
+}
+
+/// The names to be set before an end: those that may be seen after it, and those with large words that it reads.
+fn before_end(
+    alloc: Global,
+    live: &Live,
+    delayed: &[Delayed],
+    e: &End,
+) -> Result<Vec<Name>, AllocError> {
+    let mut names = Vec::new(alloc);
+    for d in delayed {
+        if ends::is_seen_after(live, e, d.name) || is_large(&d.word) && end_reads(e, d.name) {
+            names.push(d.name)?;
+        }
+    }
+    Ok(names)
+}
+
 /// Does what is delayed and may be seen after an end.
-pub(crate) fn close(folding: &mut Folding, alloc: Global, leaves: bool) -> Result<(), AllocError>
+pub(crate) fn close(
+    folding: &mut Folding,
+    alloc: Global,
+    live: &Live,
+    e: &End,
+) -> Result<(), AllocError>
     ensures { OnOk result (Waits folding.old.done folding.old.delayed.items folding.new.done folding.new.delayed.items) }
 {
-    if leaves {
-        let chosen = registers(alloc, &folding.delayed)?;
-        set_chosen(folding, chosen)?;
-        Ok(())
-    } else {
-        let chosen = all(alloc, &folding.delayed)?;
-        set_chosen(folding, chosen)?;
-        Ok(())
-    }
+    let chosen = before_end(alloc, live, &folding.delayed, e)?;
+    set_chosen(folding, chosen)?;
+    Ok(())
 }

@@ -1,8 +1,9 @@
+use Rattle.flag_liveness.specs.Before.{live_before_all}
 use Rattle.expr_fold.proofs.Folded.{follows_none, follows_more, follows_all}
 use Rattle.expr_fold.proofs.blocks.statements.Goals as goal
 
 pub loop-i-init : goal.loop-i-init
-loop-i-init c = λ sees each t. follows_none (sees 0) _ _ c.new-folding.ensures.done c.new-folding.ensures.delayed
+loop-i-init c = λ last seen t. follows_none (live_before_all c.args.stmts.now last) _ _ c.new-folding.ensures.done c.new-folding.ensures.delayed
 
 pub loop-i-preserved : goal.loop-i-preserved
 loop-i-preserved c =
