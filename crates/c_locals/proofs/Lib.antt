@@ -1,0 +1,13 @@
+mod Bools
+mod ReadNames
+mod Marking
+mod Numbers
+mod Agreeing
+mod Renamed
+mod FormedWords
+mod PartsAlike
+mod Simple
+mod StmtRuns
+mod Counting
+mod FormedStmts
+mod Whole
