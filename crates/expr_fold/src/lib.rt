@@ -14,4 +14,5 @@ mod policy;
 mod seen;
 mod uses;
 
+pub use fits::{cond_fits, word_fits};
 pub use flows::fold;

@@ -17,10 +17,15 @@ use Rattle.flow_passes.specs.Alike.{Alike, ArrivesAlike}
 use Rattle.flow_passes.specs.Keeps.{EndsAlike, loads_of_stmts}
 use Rattle.flow_passes.proofs.Names.{but_names, alike_self}
 use Rattle.word_rules.proofs.Congruence.{and_true}
-use Rattle.expr_fold.specs.Folds.{everything, FoldsBlock, FoldsBlocks}
+use Rattle.flow_passes.specs.Uses.{NameSet}
+use Rattle.expr_fold.specs.Folds.{FoldsBlock, FoldsBlocks}
 use Rattle.expr_rewrite.specs.Pairs.{Pairs}
 use Rattle.expr_rewrite.specs.Rewritten.{StandsForStmt, StandsForEnd, StandsForBlock}
 use Rattle.expr_rewrite.proofs.Doing.{Unless, block_unless}
+
+-- every name
+abbrev pub everything : NameSet
+everything n = true
 
 -- ---- what stays
 

@@ -1,10 +1,9 @@
 use Rattle.std.proofs.Common.{refl, subst}
 use Rattle.micro_ir.specs.declared.flow.Flow.{Flow}
-use Rattle.expr_fold.specs.Folds.{everything}
 use Rattle.expr_fold.proofs.Folded.{flow_given, flow_keeps}
 use Rattle.expr_rewrite.specs.Pairs.{Pairs}
 use Rattle.expr_rewrite.specs.Rewritten.{StandsForBlock}
-use Rattle.expr_rewrite.proofs.Keeping.{blocks_fold}
+use Rattle.expr_rewrite.proofs.Keeping.{everything, blocks_fold}
 use Rattle.expr_rewrite.proofs.flows.rewrite_flow.Goals as goal
 
 pub returns-clause-given : goal.returns-clause-given
