@@ -1,0 +1,4 @@
+//! Rules on Conds: comparisons in the place of conditions that are spelled out by flags.
+//! Given are Words and Conds.
+//! Promised are ones that may stand for them.
+#![tactic(auto)]
