@@ -3,6 +3,7 @@
 //! Promised are ones that may stand for them, in which no sum with 0 and no operation on two numbers is left.
 #![tactic(auto)]
 
-mod known;
+mod masks;
+mod numbers;
 
-pub use known::known;
+pub use masks::known;
