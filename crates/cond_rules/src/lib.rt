@@ -2,3 +2,11 @@
 //! Given are Words and Conds.
 //! Promised are ones that may stand for them.
 #![tactic(auto)]
+
+mod chosen;
+mod compared;
+mod made;
+mod negated;
+mod shapes;
+
+pub use compared::{compared_cond, compared_word};
