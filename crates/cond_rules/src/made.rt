@@ -1,0 +1,54 @@
+//! Conds by their parts, made of comparisons where a rule allows.
+
+ghost use Rattle.std.specs.Prelude.{IfOk, IfSome};
+ghost use Rattle.c_words.specs.Built.{cmp as cmp_of, cond_not as not_of, and as and_of, or as or_of};
+ghost use Rattle.word_rules.specs.Standing.{ForCond};
+
+use crate::chosen::chosen;
+use crate::negated::negated;
+use c_syntax::{CCmp, CCond, CExpr};
+use std::alloc::{AllocError, Global};
+
+/// A comparison.
+pub(crate) fn cmp(alloc: Global, op: CCmp, a: CExpr, b: CExpr) -> Result<CCond, AllocError>
+    ensures { IfOk result (ForCond (cmp_of op a b)) }
+{
+    match ruled(alloc, op, &a, &b)? {
+        Some(t) => {
+            drop(a);
+            drop(b);
+            Ok(t)
+        }
+        None => Ok(CCond::Cmp(op, a, b)),
+    }
+}
+
+/// What the rules put in the place of a comparison.
+fn ruled(alloc: Global, op: CCmp, a: &CExpr, b: &CExpr) -> Result<Option<CCond>, AllocError>
+    ensures { IfOk result (λ o. IfSome o (ForCond (cmp_of op a.now b.now))) }
+{
+    chosen(alloc, op, a, b)
+}
+
+/// A negation.
+pub(crate) fn not(alloc: Global, t: CCond) -> Result<CCond, AllocError>
+    ensures { IfOk result (ForCond (not_of t)) }
+{
+    let made = negated(alloc, &t)?;
+    drop(t);
+    Ok(made)
+}
+
+/// A conjunction.
+pub(crate) fn and(alloc: Global, t: CCond, u: CCond) -> Result<CCond, AllocError>
+    ensures { IfOk result (ForCond (and_of t u)) }
+{
+    c_words::and(alloc, t, u)
+}
+
+/// A disjunction.
+pub(crate) fn or(alloc: Global, t: CCond, u: CCond) -> Result<CCond, AllocError>
+    ensures { IfOk result (ForCond (or_of t u)) }
+{
+    c_words::or(alloc, t, u)
+}

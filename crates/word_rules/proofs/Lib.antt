@@ -1,0 +1,4 @@
+pub mod Layers
+pub mod Congruence
+mod Bits
+mod Covered

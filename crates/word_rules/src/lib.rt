@@ -1,0 +1,9 @@
+//! Rules on Words: a Word that reads better in the place of another, with the same value and no more parts.
+//! Given are Words and Conds.
+//! Promised are ones that may stand for them, in which no sum with 0 and no operation on two numbers is left.
+#![tactic(auto)]
+
+mod masks;
+mod numbers;
+
+pub use masks::known;
