@@ -12,14 +12,13 @@ use flow_stretches::join_stretches;
 use micro_ir::Flow;
 use std::alloc::{AllocError, Global};
 
-/// The flow with words in place, and these rewritten: without what nothing sees, before as after.
+/// The flow with words in place, and these rewritten, and then without what nothing sees.
 fn folded(alloc: Global, f: Flow) -> Result<Flow, AllocError>
     requires given { IsGiven f }
     ensures given { IfOk result IsGiven }
     ensures keeps { IfOk result (Keeps f) }
 {
-    let seen = clean(alloc, f)?;
-    let in_place = fold(alloc, seen)?;
+    let in_place = fold(alloc, f)?;
     let rewritten = rewrite_flow(alloc, in_place)?;
     let short = clean(alloc, rewritten)?;
     Ok(short)
