@@ -182,7 +182,7 @@ fn prints_comparisons(rt: HostRuntime) -> Result<(), Fail> {
         let ran = decompile(alloc, elf(alloc, &code)?, "0x08048100+6")?;
         assert!(rt; ran.status == Status::Done, "{first}");
         let text = ran.out.bytes();
-        let found = count(text, first)? + count(text, second)?;
+        let found = count(text, first)?.saturating_add(count(text, second)?);
         assert_eq!(rt; found, 1, "{first}");
         assert_eq!(rt; count(text, "uint32_t")?, 0, "{first}");
     }
