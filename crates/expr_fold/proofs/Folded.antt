@@ -28,7 +28,7 @@ use Rattle.flow_passes.proofs.Walking.{going_alike_keeps_runs}
 use Rattle.expr_fold.specs.declared.delayed.Delayed.{Delayed}
 use Rattle.expr_fold.specs.Delayed.{are_flow_delayed}
 use Rattle.expr_fold.specs.Placed.{placed_word, placed_cond, placed_end}
-use Rattle.expr_fold.specs.Follows.{DoesBehind, Follows, Sees, Takes, Waits, AllSeen, FollowsFirst}
+use Rattle.expr_fold.specs.Follows.{DoesBehind, Follows, Sees, Takes, TakesTwo, Waits, AllSeen, FollowsFirst, IsLost}
 use Rattle.expr_fold.specs.Folds.{LivesAt, LivesIn, FoldsBlock, FoldsBlocks}
 use Rattle.expr_fold.proofs.Named.{and_true}
 use Rattle.expr_fold.proofs.Placing.{word_named, cond_named}
@@ -86,22 +86,53 @@ rule_less (r ∷ rs) s h =
     let j = rule_less rs s k.1 in
     (and_true (is_flow_stmt r) (are_flow_stmts rs) k.0 j.0, j.1)
 
-pub follows_more : (all : List Stmt) (i : ℕ) (s : Stmt) (new : List Stmt) (p : List Delayed) (new' : List Stmt) (p' : List Delayed) → i < length all → s ≡ get_or all i s
-    → Takes s new p new' p' → FollowsFirst all i new p → FollowsFirst all (i + 1) new' p'
-follows_more all i s new p new' p' l e t h last seen =
+one_taken : (all : List Stmt) (i : ℕ) (s : Stmt) → i < length all → s ≡ get_or all i s → take (i + 1) all ≡ take i all ++ s ∷ []
+one_taken all i s l e = take_more all i s l ∙ ap (λ x. take i all ++ x ∷ []) (sym e)
+
+pub follows_more : (last : NameSet) (all : List Stmt) (i : ℕ) (s : Stmt) (new : List Stmt) (p : List Delayed) (new' : List Stmt) (p' : List Delayed) → i < length all → s ≡ get_or all i s
+    → Takes s new p new' p' → FollowsFirst last all i new p → FollowsFirst last all (i + 1) new' p'
+follows_more last all i s new p new' p' l e t h seen =
     let first = live_before_all all last in
     let next = live_before_all (drop (i + 1) all) last in
-    subst (λ x. IsTrue (are_flow_stmts x) → Follows first next x new' p') (sym (take_more all i s l ∙ ap (λ x. take i all ++ x ∷ []) (sym e)))
-    (λ r. let k = rule_less (take i all) s r in t first (live_before_all (drop i all) last) next (take i all) k.1 (sees_each all last seen i s l e) (h last seen k.0))
+    subst (λ x. IsTrue (are_flow_stmts x) → Follows first next x new' p') (sym (one_taken all i s l e))
+    (λ r. let k = rule_less (take i all) s r in t first (live_before_all (drop i all) last) next (take i all) k.1 (sees_each all last seen i s l e) (h seen k.0))
+
+-- the statement of a number
+pub stmt_at : (all : List Stmt) (i : ℕ) (s : Stmt) → slice_get all i ≡ Some s → (i < length all) × (s ≡ get_or all i s)
+stmt_at [] i s e = absurd (let z : ⊥ = cc in z)
+stmt_at (x ∷ xs) zero s e = (omega arith, let z : s ≡ x = cc in z)
+stmt_at (x ∷ xs) (suc i) s e = let k = stmt_at xs i s e in (let l = k.0 in omega (arith, l), k.1)
+
+rest_seen : (all : List Stmt) (last : NameSet) (i : ℕ) → AllSeen all last → AllSeen (drop i all) last
+rest_seen all last zero h = h
+rest_seen [] last (suc i) h = h
+rest_seen (x ∷ xs) last (suc i) h = rest_seen xs last i h.1
+
+-- two statements more
+pub follows_two : (last : NameSet) (all : List Stmt) (i : ℕ) (s r : Stmt) (t : Name) (new : List Stmt) (p : List Delayed) (new' : List Stmt) (p' : List Delayed) → i < length all → s ≡ get_or all i s
+    → slice_get all (i + 1) ≡ Some r → IsLost last (drop ((i + 1) + 1) all) t → TakesTwo s r t new p new' p' → FollowsFirst last all i new p → FollowsFirst last all ((i + 1) + 1) new' p'
+follows_two last all i s r t new p new' p' l e at lost two h seen =
+    let k = stmt_at all (i + 1) r at in
+    let first = live_before_all all last in
+    let between = live_before_all (drop (i + 1) all) last in
+    let next = live_before_all (drop ((i + 1) + 1) all) last in
+    subst (λ x. IsTrue (are_flow_stmts x) → Follows first next x new' p') (sym (one_taken all (i + 1) r k.0 k.1 ∙ ap (λ x. x ++ r ∷ []) (one_taken all i s l e)))
+    (λ rule.
+    let a = rule_less (take i all ++ s ∷ []) r rule in
+    let b = rule_less (take i all) s a.0 in
+    two first (live_before_all (drop i all) last) between next (take i all) b.1 a.1 (sees_each all last seen i s l e) (sees_each all last seen (i + 1) r k.0 k.1) (lost (rest_seen all last ((i + 1) + 1) seen)) (h seen b.0))
 
 -- all statements
-pub follows_all : (all : List Stmt) (i : ℕ) (new : List Stmt) (p : List Delayed) → length all ≤ i → i ≤ length all → FollowsFirst all i new p → FollowsFirst all (length all) new p
-follows_all all i new p a b h = subst (λ n. FollowsFirst all n new p) (let e : i ≡ length all = omega arith in e) h
+pub follows_all : (last : NameSet) (all : List Stmt) (i : ℕ) (new : List Stmt) (p : List Delayed) → length all ≤ i → i ≤ length all → FollowsFirst last all i new p → FollowsFirst last all (length all) new p
+follows_all last all i new p a b h = subst (λ n. FollowsFirst last all n new p) (let e : i ≡ length all = omega arith in e) h
 
 -- steps before and after a statement
 pub takes_between : (s : Stmt) (a : List Stmt) (p : List Delayed) (b : List Stmt) (q : List Delayed) (c : List Stmt) (r : List Delayed) (d : List Stmt) (t : List Delayed)
     → Waits a p b q → Takes s b q c r → Waits c r d t → Takes s a p d t
 takes_between s a p b q c r d t f g h before seen after old rule sees x = h before after (old ++ s ∷ []) (g before seen after old rule sees (f before seen old x))
+
+pub takes_two_after : (s r : Stmt) (t : Name) (a : List Stmt) (p : List Delayed) (b : List Stmt) (q : List Delayed) (c : List Stmt) (o : List Delayed) → Waits a p b q → TakesTwo s r t b q c o → TakesTwo s r t a p c o
+takes_two_after s r t a p b q c o f g before seen between after old rs rr s1 s2 lost x = g before seen between after old rs rr s1 s2 lost (f before seen old x)
 
 -- ---- ends
 
@@ -160,12 +191,12 @@ cleaned_lives f live h k c at =
 
 -- ---- a block folds
 
-pub block_folds : (live : ℕ → NameSet) (k : ℕ) (b c : Block) (p : List Delayed) → IsTrue (is_flow_block b) → LivesAt live k b → FollowsFirst b.stmts (length b.stmts) c.stmts p → EndsWell live (live_at b.end live) p b.end
+pub block_folds : (live : ℕ → NameSet) (k : ℕ) (b c : Block) (p : List Delayed) → IsTrue (is_flow_block b) → LivesAt live k b → FollowsFirst (live_at b.end live) b.stmts (length b.stmts) c.stmts p → EndsWell live (live_at b.end live) p b.end
     → c.at ≡ b.at → c.end ≡ placed_end p b.end → IsTrue (end_fits c.end) → FoldsBlock live k b c
 block_folds live k b c p rule lives follows well at e fits =
     let last : NameSet = live_at b.end live in
     let t = both_true (are_flow_stmts b.stmts) (is_flow_end b.end) rule in
-    let h = follows last lives.seen (subst (λ x. IsTrue (are_flow_stmts x)) (sym (take-length b.stmts)) t.0) in
+    let h = follows lives.seen (subst (λ x. IsTrue (are_flow_stmts x)) (sym (take-length b.stmts)) t.0) in
     let h2 : Follows (live_in b live) last b.stmts c.stmts p =
     subst (λ x. Follows (live_in b live) (live_before_all x last) b.stmts c.stmts p) (drop-length b.stmts)
     (subst (λ x. Follows (live_in b live) (live_before_all (drop (length b.stmts) b.stmts) last) x c.stmts p) (take-length b.stmts) h) in

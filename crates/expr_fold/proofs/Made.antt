@@ -10,7 +10,7 @@ use Rattle.micro_ir.specs.Rule.{is_flow_block, are_flow_blocks, IsGiven}
 use Rattle.flow_passes.specs.Keeps.{Keeps}
 use Rattle.micro_ir.proofs.Values.{both_true}
 use Rattle.flow_passes.specs.Uses.{NameSet}
-use Rattle.flag_liveness.specs.Before.{AreLive, live_before_all}
+use Rattle.flag_liveness.specs.Before.{AreLive, live_before_all, live_at}
 use Rattle.flag_liveness.specs.Clean.{cleaned_flow}
 use Rattle.flag_liveness.proofs.Keeping.{cleaning_keeps}
 use Rattle.expr_fold.specs.declared.delayed.Delayed.{Delayed}
@@ -23,11 +23,11 @@ use Rattle.expr_fold.proofs.Ending.{ends_well}
 use Rattle.expr_fold.proofs.Folded.{block_folds, folds_more, cleaned_lives}
 
 -- what is done while sets wait follows too
-pub follows_waiting : (all : List Stmt) (i : ℕ) (a : List Stmt) (p : List Delayed) (b : List Stmt) (q : List Delayed) → FollowsFirst all i a p → Waits a p b q → FollowsFirst all i b q
-follows_waiting all i a p b q h w last seen t = w (live_before_all all last) (live_before_all (drop i all) last) (take i all) (h last seen t)
+pub follows_waiting : (last : NameSet) (all : List Stmt) (i : ℕ) (a : List Stmt) (p : List Delayed) (b : List Stmt) (q : List Delayed) → FollowsFirst last all i a p → Waits a p b q → FollowsFirst last all i b q
+follows_waiting last all i a p b q h w seen t = w (live_before_all all last) (live_before_all (drop i all) last) (take i all) (h seen t)
 
 -- a block of new statements and the end with delayed words in place
-pub block_made : (live : ℕ → NameSet) (b c : Block) (p : List Delayed) → IsTrue (is_flow_block b) → FollowsFirst b.stmts (length b.stmts) c.stmts p
+pub block_made : (live : ℕ → NameSet) (b c : Block) (p : List Delayed) → IsTrue (is_flow_block b) → FollowsFirst (live_at b.end live) b.stmts (length b.stmts) c.stmts p
     → c.at ≡ b.at → c.end ≡ placed_end p b.end → IsTrue (end_fits c.end) → IsTrue (none_seen_after b.end live p) → (k : ℕ) → LivesAt live k b → FoldsBlock live k b c
 block_made live b c p rule follows at e fits unseen k lives = block_folds live k b c p rule lives follows (ends_well live p b.end unseen) at e fits
 

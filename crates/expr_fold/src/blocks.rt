@@ -1,31 +1,81 @@
 //! Blocks with words in place.
 
-ghost use Rattle.std.specs.Prelude.{◌≡◌, ℕ, [], length, true, IsTrue, IfOk, IfSome};
+ghost use Rattle.std.specs.Prelude.{◌≡◌, ◌<◌, ℕ, [], length, true, IsTrue, IfOk, IfSome};
 ghost use Rattle.micro_ir.specs.Rule.{is_flow_block, are_flow_blocks};
+ghost use Rattle.flow_passes.specs.Uses.{NameSet};
+ghost use Rattle.flag_liveness.specs.Before.{live_at};
 ghost use Rattle.flag_liveness.specs.Lives.{live_of};
 ghost use Rattle.expr_fold.specs.Placed.{placed_end};
 ghost use Rattle.expr_fold.specs.Follows.{FollowsFirst};
 ghost use Rattle.expr_fold.specs.Ends.{end_fits, none_seen_after};
 ghost use Rattle.expr_fold.specs.Folds.{LivesAt, LivesIn, FoldsBlock, FoldsBlocks};
-ghost use Rattle.expr_fold.specs.Adds.{AddsFolded};
+ghost use Rattle.expr_fold.specs.Adds.{AddsFolded, Advances};
 
 use crate::delayed::Delayed;
 use crate::folding::{DEPTH, Folding};
-use crate::{ends, fits, placed, policy};
+use crate::{ends, fits, loads, placed, policy};
 use flag_liveness::Live;
 use micro_ir::{Block, End, Stmt};
 use sqlite_items::Items;
 use std::alloc::{AllocError, Global};
 
+/// Takes the statement at a place. The answer is the next place; None where it can't be taken.
+fn take_one(
+    folding: &mut Folding,
+    alloc: Global,
+    stmts: &[Stmt],
+    at: usize,
+) -> Result<Option<usize>, AllocError>
+    requires { at < length stmts.now }
+    ensures { IfOk result (λ o. IfSome o (λ j. (last : NameSet) → Advances last stmts.now at j folding.old folding.new)) }
+{
+    if policy::step(folding, alloc, &stmts[at], &stmts[at + 1..])? {
+        Ok(Some(at + 1))
+    } else {
+        Ok(None)
+    }
+}
+
+/// Takes the statement at a place, and with a load the next one, where that sets a register to the loaded name and nothing
+/// else reads it. The answer is the next place; None where they can't be taken.
+fn take_next(
+    folding: &mut Folding,
+    alloc: Global,
+    live: &Live,
+    stmts: &[Stmt],
+    end: &End,
+    at: usize,
+) -> Result<Option<usize>, AllocError>
+    requires { at < length stmts.now }
+    ensures { IfOk result (λ o. IfSome o (λ j. Advances (live_at end.now (live_of live.now)) stmts.now at j folding.old folding.new)) }
+{
+    if let Stmt::Load(t, width, e) = &stmts[at]
+        && let Some(r) = loads::moved_to(live, stmts, end, at + 1, *t)
+    {
+        if policy::step_into(folding, alloc, *t, *width, e, r)? {
+            return Ok(Some(at + 2));
+        }
+        return Ok(None);
+    }
+    take_one(folding, alloc, stmts, at)
+}
+
 /// The statements of a block. None where they can't be taken.
-fn statements(alloc: Global, stmts: &[Stmt]) -> Result<Option<Folding>, AllocError>
-    ensures { IfOk result (λ o. IfSome o (λ g. FollowsFirst stmts.now (length stmts.now) g.done g.delayed.items)) }
+fn statements(
+    alloc: Global,
+    live: &Live,
+    stmts: &[Stmt],
+    end: &End,
+) -> Result<Option<Folding>, AllocError>
+    ensures { IfOk result (λ o. IfSome o (λ g. FollowsFirst (live_at end.now (live_of live.now)) stmts.now (length stmts.now) g.done g.delayed.items)) }
 {
     let mut folding = Folding::new(alloc);
-    for (i, s) in stmts.iter().enumerate() {
-        if !policy::step(&mut folding, alloc, s, &stmts[i + 1..])? {
+    let mut at = 0;
+    while at < stmts.len() {
+        let Some(next) = take_next(&mut folding, alloc, live, stmts, end, at)? else {
             return Ok(None);
-        }
+        };
+        at = next;
     }
     Ok(Some(folding))
 }
@@ -62,9 +112,9 @@ fn end_fits(e: &End) -> bool
 
 /// The statements of a block, with what may be seen after its end. None where they can't be taken.
 fn closed(alloc: Global, live: &Live, b: &Block) -> Result<Option<Folding>, AllocError>
-    ensures { IfOk result (λ o. IfSome o (λ g. FollowsFirst b.now.stmts (length b.now.stmts) g.done g.delayed.items)) }
+    ensures { IfOk result (λ o. IfSome o (λ g. FollowsFirst (live_at b.now.end (live_of live.now)) b.now.stmts (length b.now.stmts) g.done g.delayed.items)) }
 {
-    let Some(folding) = statements(alloc, b.stmts.as_slice())? else {
+    let Some(folding) = statements(alloc, live, b.stmts.as_slice(), &b.end)? else {
         return Ok(None);
     };
     let mut folding = folding;

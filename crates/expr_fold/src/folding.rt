@@ -3,7 +3,8 @@
 ghost use Rattle.std.specs.Prelude.{◌≡◌, ◌<◌, ◌++◌, [], ◌∷◌, length, slice_get, remove, Some, true, IsTrue, OnOk, IfOk};
 ghost use Rattle.micro_ir.specs.declared.flow.Stmt.TheVariants as stmt;
 ghost use Rattle.expr_fold.specs.Delayed.{is_delayed, none_reads, without, are_flags};
-ghost use Rattle.expr_fold.specs.Follows.{Waits, Takes};
+ghost use Rattle.expr_fold.specs.Follows.{Waits, Takes, TakesTwo};
+ghost use Rattle.c_syntax.specs.declared.syntax.CExpr.{CExpr-F, roll-CExpr};
 
 use crate::delayed::Delayed;
 use crate::{fits, placed};
@@ -142,6 +143,31 @@ impl Folding {
             return Ok(false);
         }
         self.perform(Stmt::Load(n, width, word))?;
+        Ok(true)
+    }
+
+    /// Takes a load of a name that a register is set to at once, and that isn't seen after that: it is loaded into the
+    /// register. False where its word would nest too deep, or a delayed word reads the register.
+    pub fn take_load_into(
+        &mut self,
+        alloc: Global,
+        t: Name,
+        width: Width,
+        e: &Expr,
+        r: Name,
+    ) -> Result<bool, AllocError>
+        ensures { IfOk result (λ b. IsTrue b → TakesTwo (stmt.Load t width e.now) (stmt.Set r (roll-CExpr (CExpr-F.Name t))) t self.old.done self.old.delayed.items self.new.done self.new.delayed.items) }
+    {
+        let word = placed::word(alloc, &self.delayed, e)?;
+        if !fits::word_fits(&word, DEPTH) {
+            return Ok(false);
+        }
+        self.forget(t);
+        self.forget(r);
+        if !none_reads(&self.delayed, r) {
+            return Ok(false);
+        }
+        self.perform(Stmt::Load(r, width, word))?;
         Ok(true)
     }
 

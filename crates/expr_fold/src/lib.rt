@@ -9,6 +9,7 @@ mod ends;
 mod fits;
 mod flows;
 mod folding;
+mod loads;
 mod placed;
 mod policy;
 mod seen;

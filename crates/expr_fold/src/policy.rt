@@ -1,12 +1,14 @@
 //! Which sets are delayed, and for how long. Each choice is right; these are the ones that leave few and short statements.
 
 ghost use Rattle.std.specs.Prelude.{◌<◌, length, IsTrue, OnOk, IfOk, IfSome};
-ghost use Rattle.expr_fold.specs.Follows.{Waits, Takes};
+ghost use Rattle.expr_fold.specs.Follows.{Waits, Takes, TakesTwo};
+ghost use Rattle.c_syntax.specs.declared.syntax.CExpr.{CExpr-F, roll-CExpr};
+ghost use Rattle.micro_ir.specs.declared.flow.Stmt.TheVariants as stmt;
 
 use crate::delayed::Delayed;
 use crate::folding::Folding;
 use crate::{ends, fits, uses};
-use dream_words::Name;
+use dream_words::{Name, Width};
 use flag_liveness::Live;
 use flow_passes::{cond_reads, is_flag, is_register, same_name, word_reads};
 use micro_ir::{End, Expr, Stmt};
@@ -194,6 +196,23 @@ pub(crate) fn step(
     let last = after(alloc, &folding.delayed, s, rest)?;
     set_chosen(folding, last)?;
     Ok(true)
+}
+
+/// Takes a load into the register that is set to its name next. False where that can't be.
+pub(crate) fn step_into(
+    folding: &mut Folding,
+    alloc: Global,
+    t: Name,
+    width: Width,
+    e: &Expr,
+    r: Name,
+) -> Result<bool, AllocError>
+    ensures { IfOk result (λ b. IsTrue b → TakesTwo (stmt.Load t width e.now) (stmt.Set r (roll-CExpr (CExpr-F.Name t))) t folding.old.done folding.old.delayed.items folding.new.done folding.new.delayed.items) }
+{
+    let first = readers(alloc, &folding.delayed, r)?;
+    set_chosen(folding, first)?;
+    let taken = folding.take_load_into(alloc, t, width, e, r)?;
+    Ok(taken)
 }
 
 /// An end reads a name.

@@ -5,6 +5,7 @@ use Rattle.micro_ir.specs.declared.flow.End.{End as BlockEnd}
 use Rattle.expr_fold.specs.declared.folding.Folding.{Folding}
 use Rattle.expr_fold.specs.Placed.{placed_end}
 use Rattle.expr_fold.specs.Follows.{FollowsFirst}
+use Rattle.flag_liveness.specs.Before.{live_at}
 use Rattle.flag_liveness.specs.Lives.{live_of}
 use Rattle.expr_fold.specs.Ends.{end_fits, none_seen_after}
 use Rattle.expr_fold.proofs.Made.{block_made}
@@ -18,7 +19,7 @@ returns c =
     let made : Block = record { at = b.at; stmts = folding.done; end = c.in-Some-2.end } in
     let given = c.deref.result.now in
     let ends = c.in_ok-end.ensures {u = tt} in
-    let follows = subst (λ o. IfSome o (λ (g : Folding). FollowsFirst b.stmts (length b.stmts) g.done g.delayed.items)) c.in-Some.is (c.in_ok-folding.ensures {u = tt}) in
+    let follows = subst (λ o. IfSome o (λ (g : Folding). FollowsFirst (live_at b.end live) b.stmts (length b.stmts) g.done g.delayed.items)) c.in-Some.is (c.in_ok-folding.ensures {u = tt}) in
     let placed = subst (λ o. IfSome o (λ (r : BlockEnd). r ≡ placed_end given b.end)) c.in-Some-2.is ends.placed in
     let fits = subst (λ o. IfSome o (λ (r : BlockEnd). IsTrue (end_fits r))) c.in-Some-2.is ends.fits in
     let unseen = subst (λ o. IfSome o (λ (r : BlockEnd). IsTrue (none_seen_after b.end live given))) c.in-Some-2.is ends.unseen in
