@@ -28,7 +28,7 @@ use Rattle.cond_rules.specs.Widths.{bits_at, low_of, top_of, signed_of, less_of,
 use Rattle.cond_rules.proofs.Tests.{Shape, Test, Has, NeedsBoth, NeedsFirst, truth_by, two_for, one_for}
 use Rattle.cond_rules.proofs.Tests.Shape.{first, second, number, joined, one, two}
 use Rattle.cond_rules.proofs.Tests.Test.{test}
-use Rattle.cond_rules.proofs.Signs.{bit_is_0, sign_is_overflow_8, sign_is_overflow_16, sign_is_overflow_32, sign_8, sign_16, sign_32}
+use Rattle.cond_rules.proofs.SignBits.{bit_is_0, sign_is_overflow_8, sign_is_overflow_16, sign_is_overflow_32, sign_8, sign_16, sign_32}
 
 -- equal tests of equality
 pub same_test : (op : CCmp) → IsTrue (is_equality op) → (x y z u : ℕ) → nat_eq x y ≡ nat_eq z u → cmp_of op x y ≡ cmp_of op z u

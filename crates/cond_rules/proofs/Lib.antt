@@ -3,5 +3,6 @@ pub mod Negating
 pub mod Choosing
 pub mod Replaced
 pub mod Tests
-pub mod Signs
+pub mod SignBits
 pub mod Comparing
+pub mod Within

@@ -183,12 +183,12 @@ module _ (t u : Test) (a b : CExpr) (P Q : ℕ → Type 0) (p : Has a P) (q : Ha
       same (Some x) (Some y) c h k e = sym (law x y (h x refl) (k y refl)) ∙ e
 
 -- where just the first is there
-pub one_for : (t u : Test) (a : CExpr) → NeedsFirst t → test_names_by true true u ≡ true
+pub one_with : (t u : Test) (a : CExpr) (P : ℕ → Type 0) → Has a P → NeedsFirst t → test_names_by true true u ≡ true
     → test_parts_by (word_parts a) (word_parts a) u ≤ test_parts_by (word_parts a) (word_parts a) t
-    → ((x : ℕ) → x < 2 ^ 32 → truth_by (Some x) (Some x) t ≡ truth_by (Some x) (Some x) u)
+    → ((x : ℕ) → P x → truth_by (Some x) (Some x) t ≡ truth_by (Some x) (Some x) u)
     → ForCond (cond_by a a t) (cond_by a a u)
-one_for t u a needs named fewer law = record {
-  truth = λ n v s c e. cond_value a a v u ∙ same (word_of a v) c (λ x h. is_small a (given n) v s x h) (sym (cond_value a a v t) ∙ e);
+one_with t u a P p needs named fewer law = record {
+  truth = λ n v s c e. cond_value a a v u ∙ same (word_of a v) c (λ x h. p (given n) v s x h) (sym (cond_value a a v t) ∙ e);
   names = λ n. subst IsTrue (sym (cond_named a a u ∙ ap (λ i. test_names_by i i u) (given n) ∙ named)) refl;
   parts = subst (λ m. m ≤ cond_parts (cond_by a a t)) (sym (cond_parted a a u)) (subst (λ m. test_parts_by (word_parts a) (word_parts a) u ≤ m) (sym (cond_parted a a t)) fewer);
 }
@@ -200,6 +200,12 @@ one_for t u a needs named fewer law = record {
     given : IsTrue (cond_has_flow_names (cond_by a a t)) → IsTrue (has_flow_names a)
     given n = named_first (has_flow_names a) (subst IsTrue (cond_named a a t) n)
 
-    same : (o : Option ℕ) (c : Bool) → ((x : ℕ) → o ≡ Some x → x < 2 ^ 32) → truth_by o o t ≡ Some c → truth_by o o u ≡ Some c
+    same : (o : Option ℕ) (c : Bool) → ((x : ℕ) → o ≡ Some x → P x) → truth_by o o t ≡ Some c → truth_by o o u ≡ Some c
     same None c h e = absurd (let f = needs.value None in let z : ⊥ = cc in z)
     same (Some x) c h e = sym (law x (h x refl)) ∙ e
+
+pub one_for : (t u : Test) (a : CExpr) → NeedsFirst t → test_names_by true true u ≡ true
+    → test_parts_by (word_parts a) (word_parts a) u ≤ test_parts_by (word_parts a) (word_parts a) t
+    → ((x : ℕ) → x < 2 ^ 32 → truth_by (Some x) (Some x) t ≡ truth_by (Some x) (Some x) u)
+    → ForCond (cond_by a a t) (cond_by a a u)
+one_for t u a needs named fewer law = one_with t u a (λ x. x < 2 ^ 32) (is_small a) needs named fewer law

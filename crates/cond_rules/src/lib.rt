@@ -8,5 +8,7 @@ mod compared;
 mod made;
 mod negated;
 mod shapes;
+mod signs;
+mod widths;
 
 pub use compared::{compared_cond, compared_word};

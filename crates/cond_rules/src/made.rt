@@ -6,6 +6,7 @@ ghost use Rattle.word_rules.specs.Standing.{ForCond};
 
 use crate::chosen::chosen;
 use crate::negated::negated;
+use crate::signs;
 use c_syntax::{CCmp, CCond, CExpr};
 use std::alloc::{AllocError, Global};
 
@@ -27,7 +28,13 @@ pub(crate) fn cmp(alloc: Global, op: CCmp, a: CExpr, b: CExpr) -> Result<CCond, 
 fn ruled(alloc: Global, op: CCmp, a: &CExpr, b: &CExpr) -> Result<Option<CCond>, AllocError>
     ensures { IfOk result (λ o. IfSome o (ForCond (cmp_of op a.now b.now))) }
 {
-    chosen(alloc, op, a, b)
+    if let Some(t) = chosen(alloc, op, a, b)? {
+        return Ok(Some(t));
+    }
+    if let Some(t) = signs::less(alloc, op, a, b)? {
+        return Ok(Some(t));
+    }
+    signs::negative(alloc, op, a, b)
 }
 
 /// A negation.
