@@ -1,5 +1,6 @@
 -- Masks that cover Words, from masks that cover their parts.
-use Rattle.std.proofs.Common.{◌≡◌, ℕ, ◌-◌, ◌^◌, ◌&&◌, Bool, true, false, Option, Some, None, unwrap_or, refl, sym, ap, ◌∙◌, subst}
+use Rattle.std.proofs.Common.{◌≡◌, ℕ, ◌-◌, ◌^◌, ◌&&◌, Bool, true, false, nat_eq, Option, Some, None, unwrap_or, refl, sym, ap, ◌∙◌, subst}
+use Rattle.std.proofs.lemmas.Bool.{eqb-true}
 use Rattle.std.specs.Prelude.{IsTrue, bit_and, bit_or, bit_xor, int_lt, is_none}
 use Rattle.dream_words.specs.Words.{has_even_ones, signed_part, quotient_of, signed_quotient_of}
 use Rattle.run_parts.specs.World.{Names}
@@ -25,7 +26,7 @@ use Rattle.word_rules.specs.Standing.{IsCoveredBy}
 use Rattle.word_rules.specs.Numbers.{IsNumber}
 use Rattle.word_rules.specs.Covers.{CoversBin, CoversFn1, CoversFn2, CoversFn3}
 use Rattle.word_rules.proofs.Layers as l
-use Rattle.word_rules.proofs.Bits.{and_covered, or_covered, xor_covered, first_covered, second_covered, all_covers, bit_covered, left_shift_covered, right_shift_covered}
+use Rattle.word_rules.proofs.Bits.{wider_covers, and_covered, or_covered, xor_covered, first_covered, second_covered, all_covers, bit_covered, left_shift_covered, right_shift_covered}
 
 -- ---- where a value comes from
 
@@ -156,3 +157,7 @@ pick_covers t a b p q ha hb n v s z h =
 pub pick_covered : (t : CCond) (a b x y e : CExpr) (p q : ℕ) → e ≡ words.Pick t a b → x ≡ a → y ≡ b → IsCoveredBy x p → IsCoveredBy y q → IsCoveredBy e (bit_or p q)
 pick_covered t a b x y e p q i j k ha hb =
     subst (λ g. IsCoveredBy g (bit_or p q)) (word.rolls-Pick t a b ∙ sym i) (pick_covers t a b p q (subst (λ f. IsCoveredBy f p) j ha) (subst (λ f. IsCoveredBy f q) k hb))
+
+-- a mask that keeps a mask of a Word covers it
+pub covered_by_wider : (a : CExpr) (m k : ℕ) → IsCoveredBy a m → IsTrue (nat_eq (bit_and m k) m) → IsCoveredBy a k
+covered_by_wider a m k h t n v s x e = wider_covers x m k (h n v s x e) (eqb-true (bit_and m k) m t)

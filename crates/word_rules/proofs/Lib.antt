@@ -2,3 +2,6 @@ pub mod Layers
 pub mod Congruence
 mod Bits
 mod Covered
+mod Effects
+mod Looks
+mod Rules

@@ -3,7 +3,10 @@
 //! Promised are ones that may stand for them, in which no sum with 0 and no operation on two numbers is left.
 #![tactic(auto)]
 
+mod bins;
 mod masks;
 mod numbers;
+mod operators;
 
+pub use bins::bin;
 pub use masks::known;
