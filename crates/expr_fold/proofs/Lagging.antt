@@ -14,9 +14,10 @@ use Rattle.flow_passes.specs.Laws.{Within, SameNames}
 use Rattle.flow_passes.proofs.Names.{same_self, answered_same}
 use Rattle.expr_fold.specs.declared.delayed.Delayed.{Delayed}
 use Rattle.expr_fold.specs.Delayed.{is_delayed, none_reads, without, are_flags, AreHeld}
+use Rattle.expr_fold.specs.Said.{AreSaid}
 use Rattle.expr_fold.specs.Follows.{Lags}
 use Rattle.expr_fold.proofs.Named.{same_true, same_turned, set_here, set_there, true_or_false, and_true, not_true, not_both, second_false}
-use Rattle.expr_fold.proofs.Lists.{held_append, delayed_append, filter_held, filter_delayed, pick_held, pick_delayed, unread_held, flags_delayed}
+use Rattle.expr_fold.proofs.Lists.{held_append, delayed_append, filter_held, filter_delayed, pick_held, pick_delayed, unread_held, said_held, said_delayed, flags_delayed}
 
 -- what is seen less lags too
 pub lag_within : (less more : NameSet) (p : List Delayed) (v u : Names) → Within less more → Lags more p v u → Lags less p v u
@@ -33,12 +34,14 @@ set_others : (seen : NameSet) (p : List Delayed) (i : ℕ) (d : Delayed) (v u : 
 set_others seen p i d v u e t l k s f (inl g) = set_here u d.name (v d.name) k t g ∙ ap v (same_true d.name k g)
 set_others seen p i d v u e t l k s f (inr g) = set_there u d.name (v d.name) k g ∙ l.others k s (pick_delayed p i d k e g f)
 
-pub lag_set : (seen : NameSet) (p : List Delayed) (i : ℕ) (d : Delayed) (v u : Names) → slice_get p i ≡ Some d → IsTrue (is_flow_target d.name) → IsTrue (none_reads (remove p i) d.name) → Lags seen p v u
-    → Lags seen (remove p i) v (with_name u d.name (v d.name))
-lag_set seen p i d v u e t n l = record {
-  held = unread_held (remove p i) d.name v u (v d.name) n (pick_held p i d v u e l.held).1;
-  others = λ k s f. set_others seen p i d v u e t l k s f (true_or_false (same_name d.name k));
-}
+pub lag_set : (seen : NameSet) (p : List Delayed) (i : ℕ) (d : Delayed) (q : List Delayed) (v u : Names) → slice_get p i ≡ Some d → IsTrue (is_flow_target d.name) → AreSaid d (remove p i) q → Lags seen p v u
+    → Lags seen q v (with_name u d.name (v d.name))
+lag_set seen p i d q v u e t n l =
+    let k = pick_held p i d v u e l.held in
+    record {
+      held = said_held d (remove p i) q v u (v d.name) t k.0 n k.1;
+      others = λ k s f. set_others seen p i d v u e t l k s (sym (said_delayed d (remove p i) q k n) ∙ f) (true_or_false (same_name d.name k));
+    }
 
 -- and its word has the value of its name
 pub set_value : (seen : NameSet) (p : List Delayed) (i : ℕ) (d : Delayed) (v u : Names) → slice_get p i ≡ Some d → Lags seen p v u → word_of d.word u ≡ Some (v d.name)

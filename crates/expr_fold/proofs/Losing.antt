@@ -1,5 +1,5 @@
 -- Names that aren't seen again.
-use Rattle.std.proofs.Common.{◌≡◌, ℕ, suc, ◌+◌, ◌<◌, ◌≤◌, Bool, true, false, cond, not, ◌&&◌, ◌||◌, List, [], ◌∷◌, length, get_or, drop, sym, ap, subst, ◌∙◌, arith, drop-cons}
+use Rattle.std.proofs.Common.{◌≡◌, ℕ, suc, ◌+◌, ◌<◌, ◌≤◌, Bool, true, false, cond, not, ◌&&◌, ◌||◌, List, ◌∷◌, length, get_or, drop, sym, ap, subst, ◌∙◌, arith, drop-cons}
 use Rattle.std.proofs.Math.Seq.{drop-length}
 use Rattle.dream_words.specs.declared.machine.Name.{Name}
 use Rattle.micro_ir.specs.declared.flow.Stmt.{Stmt}

@@ -13,17 +13,18 @@ use Rattle.micro_ir.proofs.Values.{both_true}
 use Rattle.expr_fold.specs.declared.delayed.Delayed.{Delayed}
 use Rattle.expr_fold.specs.Delayed.{none_reads, without, are_flags, are_flow_delayed}
 use Rattle.expr_fold.specs.Placed.{placed_word}
+use Rattle.expr_fold.specs.Said.{AreSaid}
 use Rattle.expr_fold.specs.Follows.{Waits, Takes, TakesTwo}
 use Rattle.expr_fold.specs.Fits.{word_fits}
 use Rattle.expr_fold.proofs.Named.{and_true}
 use Rattle.expr_fold.proofs.Placing.{word_named}
 use Rattle.expr_fold.proofs.Taking.{waits_set, waits_back, takes_set, takes_load, takes_two, takes_store, takes_ext, takes_trap}
 
--- what was set aside is done
-pub step_set : (new : List Stmt) (p : List Delayed) (i : ℕ) (d : Delayed) (q : List Delayed) (new' : List Stmt) (p' : List Delayed) → slice_get p i ≡ Some d → q ≡ remove p i → IsTrue (none_reads q d.name)
-    → new' ≡ new ++ stmt.Set d.name d.word ∷ [] → p' ≡ q → Waits new p new' p'
-step_set new p i d q new' p' e f n g h =
-    subst (λ x. Waits new p x p') (sym g) (subst (λ y. Waits new p (new ++ stmt.Set d.name d.word ∷ []) y) (sym (h ∙ f)) (waits_set new p i d e (subst (λ y. IsTrue (none_reads y d.name)) f n)))
+-- what was set aside is done, and the others are said by its name
+pub step_set : (new : List Stmt) (p : List Delayed) (i : ℕ) (d : Delayed) (q said : List Delayed) (new' : List Stmt) (p' : List Delayed) → slice_get p i ≡ Some d → q ≡ remove p i → AreSaid d q said
+    → new' ≡ new ++ stmt.Set d.name d.word ∷ [] → p' ≡ said → Waits new p new' p'
+step_set new p i d q said new' p' e f n g h =
+    subst (λ x. Waits new p x p') (sym g) (subst (λ y. Waits new p (new ++ stmt.Set d.name d.word ∷ []) y) (sym h) (waits_set new p i d said e (subst (λ y. AreSaid d y said) f n)))
 
 -- or stands at the end
 pub step_back : (new : List Stmt) (p : List Delayed) (i : ℕ) (d : Delayed) (q : List Delayed) (new' : List Stmt) (p' : List Delayed) → slice_get p i ≡ Some d → q ≡ remove p i → new' ≡ new → p' ≡ q ++ d ∷ [] → Waits new p new' p'

@@ -7,7 +7,7 @@ ghost use Rattle.expr_fold.specs.Follows.{Waits, Takes, TakesTwo};
 ghost use Rattle.c_syntax.specs.declared.syntax.CExpr.{CExpr-F, roll-CExpr};
 
 use crate::delayed::Delayed;
-use crate::{fits, placed};
+use crate::{fits, placed, said};
 use dream_words::{Name, Width};
 use flow_passes::{is_flag, same_name, word_reads};
 use micro_ir::{Expr, Stmt};
@@ -95,19 +95,24 @@ impl Folding {
         self.delayed.retain(|d| !same_name(d.name, n));
     }
 
-    /// Does a delayed set now, unless another delayed word reads its name.
-    pub fn set_at(&mut self, at: usize) -> Result<(), AllocError>
+    /// Does a delayed set now. The other delayed words say by its name what they said by its word; where one of them reads
+    /// the name's old word elsewhere, it is delayed on.
+    pub fn set_at(&mut self, alloc: Global, at: usize) -> Result<(), AllocError>
         requires { at < length self.old.delayed.items }
         ensures { OnOk result (Waits self.old.done self.old.delayed.items self.new.done self.new.delayed.items) }
     {
         let d = self.take_out(at);
-        if none_reads(&self.delayed, d.name) {
-            let Delayed { name, word } = d;
-            self.perform(Stmt::Set(name, word))?;
-            Ok(())
-        } else {
-            self.delay(d)?;
-            Ok(())
+        match said::all_said(alloc, &d, &self.delayed)? {
+            Some(delayed) => {
+                self.delayed = delayed;
+                let Delayed { name, word } = d;
+                self.perform(Stmt::Set(name, word))?;
+                Ok(())
+            }
+            None => {
+                self.delay(d)?;
+                Ok(())
+            }
         }
     }
 

@@ -10,8 +10,10 @@ mod fits;
 mod flows;
 mod folding;
 mod loads;
+mod order;
 mod placed;
 mod policy;
+mod said;
 mod seen;
 mod uses;
 

@@ -1,13 +1,14 @@
 //! Which sets are delayed, and for how long. Each choice is right; these are the ones that leave few and short statements.
 
-ghost use Rattle.std.specs.Prelude.{◌<◌, length, IsTrue, OnOk, IfOk, IfSome};
+ghost use Rattle.std.specs.Prelude.{IsTrue, OnOk, IfOk};
 ghost use Rattle.expr_fold.specs.Follows.{Waits, Takes, TakesTwo};
 ghost use Rattle.c_syntax.specs.declared.syntax.CExpr.{CExpr-F, roll-CExpr};
 ghost use Rattle.micro_ir.specs.declared.flow.Stmt.TheVariants as stmt;
 
 use crate::delayed::Delayed;
 use crate::folding::Folding;
-use crate::{ends, fits, uses};
+use crate::order::{has, is_spoilt, set_chosen};
+use crate::{ends, fits, placed, uses};
 use dream_words::{Name, Width};
 use flag_liveness::Live;
 use flow_passes::{cond_reads, is_flag, is_register, same_name, word_reads};
@@ -26,77 +27,6 @@ const DEEPEST: u32 = 40;
 /// How many parts a small word has at most.
 const SMALL: u32 = 2;
 
-/// Names among some.
-fn has(names: &[Name], n: Name) -> bool {
-    for m in names {
-        if same_name(*m, n) {
-            return true;
-        }
-    }
-    false
-}
-
-/// A word reads one of some names.
-fn reads_one(e: &Expr, names: &[Name]) -> bool {
-    for m in names {
-        if word_reads(e, *m) {
-            return true;
-        }
-    }
-    false
-}
-
-/// The names, and those whose delayed words read them, and so on. Later words read earlier names alone.
-fn with_readers(delayed: &[Delayed], chosen: Vec<Name>) -> Result<Vec<Name>, AllocError> {
-    let mut chosen = chosen;
-    for d in delayed {
-        if !has(&chosen, d.name) && reads_one(&d.word, &chosen) {
-            chosen.push(d.name)?;
-        }
-    }
-    Ok(chosen)
-}
-
-/// No other delayed word reads the name of the set at a place.
-fn is_free(delayed: &[Delayed], at: usize, n: Name) -> bool {
-    for (i, d) in delayed.iter().enumerate() {
-        if i != at && word_reads(&d.word, n) {
-            return false;
-        }
-    }
-    true
-}
-
-/// The place of the oldest delayed set of some names whose name no other delayed word reads; where each is read, the last.
-fn next_chosen(delayed: &[Delayed], chosen: &[Name]) -> Option<usize>
-    ensures { IfSome result (λ at. at < length delayed.now) }
-{
-    let mut last = None;
-    for (at, d) in delayed.iter().enumerate() {
-        if has(chosen, d.name) {
-            if is_free(delayed, at, d.name) {
-                return Some(at);
-            }
-            last = Some(at);
-        }
-    }
-    last
-}
-
-/// Does the delayed sets of some names, and of those that read them, the oldest first wherever that is possible.
-fn set_chosen(folding: &mut Folding, chosen: Vec<Name>) -> Result<(), AllocError>
-    ensures { OnOk result (Waits folding.old.done folding.old.delayed.items folding.new.done folding.new.delayed.items) }
-{
-    let chosen = with_readers(&folding.delayed, chosen)?;
-    for _turn in 0..folding.delayed.len() {
-        let Some(at) = next_chosen(&folding.delayed, &chosen) else {
-            return Ok(());
-        };
-        folding.set_at(at)?;
-    }
-    Ok(())
-}
-
 /// The names whose delayed words read a name.
 fn readers(alloc: Global, delayed: &[Delayed], n: Name) -> Result<Vec<Name>, AllocError> {
     let mut names = Vec::new(alloc);
@@ -106,6 +36,38 @@ fn readers(alloc: Global, delayed: &[Delayed], n: Name) -> Result<Vec<Name>, All
         }
     }
     Ok(names)
+}
+
+/// The names whose delayed words read a name and can't be said after a set of it.
+fn spoilt_readers(
+    alloc: Global,
+    delayed: &[Delayed],
+    n: Name,
+    e: &Expr,
+) -> Result<Vec<Name>, AllocError> {
+    let names = readers(alloc, delayed, n)?;
+    if names.is_empty() {
+        return Ok(names);
+    }
+    let word = placed::word(alloc, delayed, e)?;
+    let set = Delayed { name: n, word };
+    let mut spoilt = Vec::new(alloc);
+    for d in delayed {
+        if has(&names, d.name) && is_spoilt(alloc, &set, &d.word)? {
+            spoilt.push(d.name)?;
+        }
+    }
+    Ok(spoilt)
+}
+
+/// Another delayed word reads a name.
+fn is_read(delayed: &[Delayed], n: Name) -> bool {
+    for d in delayed {
+        if !same_name(d.name, n) && word_reads(&d.word, n) {
+            return true;
+        }
+    }
+    false
 }
 
 /// The delayed names that aren't flags.
@@ -138,7 +100,7 @@ fn large_in(alloc: Global, delayed: &[Delayed], e: &Expr) -> Result<Vec<Name>, A
 /// The names to be set before a statement is taken.
 fn before(alloc: Global, delayed: &[Delayed], s: &Stmt) -> Result<Vec<Name>, AllocError> {
     match s {
-        Stmt::Set(n, _) => readers(alloc, delayed, *n),
+        Stmt::Set(n, e) => spoilt_readers(alloc, delayed, *n, e),
         Stmt::Load(n, _, _) => readers(alloc, delayed, *n),
         Stmt::Store(_, e, _) => large_in(alloc, delayed, e),
         Stmt::Ext(_) => unflagged(alloc, delayed),
@@ -167,7 +129,7 @@ fn after(
     let mut names = Vec::new(alloc);
     if let Stmt::Set(n, _) = s
         && let Some(d) = delayed.last()
-        && is_done_now(*n, &d.word, rest)
+        && (is_read(delayed, *n) || is_done_now(*n, &d.word, rest))
     {
         names.push(*n)?;
     }
@@ -189,12 +151,12 @@ pub(crate) fn step(
     ensures { IfOk result (λ b. IsTrue b → Takes s.now folding.old.done folding.old.delayed.items folding.new.done folding.new.delayed.items) }
 {
     let first = before(alloc, &folding.delayed, s)?;
-    set_chosen(folding, first)?;
+    set_chosen(folding, alloc, first)?;
     if !folding.take(alloc, s)? {
         return Ok(false);
     }
     let last = after(alloc, &folding.delayed, s, rest)?;
-    set_chosen(folding, last)?;
+    set_chosen(folding, alloc, last)?;
     Ok(true)
 }
 
@@ -210,7 +172,7 @@ pub(crate) fn step_into(
     ensures { IfOk result (λ b. IsTrue b → TakesTwo (stmt.Load t width e.now) (stmt.Set r (roll-CExpr (CExpr-F.Name t))) t folding.old.done folding.old.delayed.items folding.new.done folding.new.delayed.items) }
 {
     let first = readers(alloc, &folding.delayed, r)?;
-    set_chosen(folding, first)?;
+    set_chosen(folding, alloc, first)?;
     let taken = folding.take_load_into(alloc, t, width, e, r)?;
     Ok(taken)
 }
@@ -252,6 +214,6 @@ pub(crate) fn close(
     ensures { OnOk result (Waits folding.old.done folding.old.delayed.items folding.new.done folding.new.delayed.items) }
 {
     let chosen = before_end(alloc, live, &folding.delayed, e)?;
-    set_chosen(folding, chosen)?;
+    set_chosen(folding, alloc, chosen)?;
     Ok(())
 }

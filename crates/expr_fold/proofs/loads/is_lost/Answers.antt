@@ -2,7 +2,7 @@ use Rattle.std.proofs.Common.{sym, ◌∙◌}
 use Rattle.flag_liveness.specs.Before.{live_at}
 use Rattle.flag_liveness.specs.Lives.{live_of}
 use Rattle.expr_fold.proofs.Named.{not_true}
-use Rattle.expr_fold.proofs.Losing.{lost_more, lost_here, lost_last}
+use Rattle.expr_fold.proofs.Losing.{lost_more, lost_last}
 use Rattle.expr_fold.proofs.loads.is_lost.Goals as goal
 
 pub loop-s-preserved : goal.loop-s-preserved
