@@ -5,6 +5,7 @@
 
 mod chosen;
 mod compared;
+mod equal;
 mod made;
 mod negated;
 mod shapes;

@@ -6,8 +6,9 @@ ghost use Rattle.word_rules.specs.Standing.{ForCond};
 
 use crate::chosen::chosen;
 use crate::negated::negated;
-use crate::signs;
+use crate::{equal, signs};
 use c_syntax::{CCmp, CCond, CExpr};
+use dream_words::Width;
 use std::alloc::{AllocError, Global};
 
 /// A comparison.
@@ -34,7 +35,35 @@ fn ruled(alloc: Global, op: CCmp, a: &CExpr, b: &CExpr) -> Result<Option<CCond>,
     if let Some(t) = signs::less(alloc, op, a, b)? {
         return Ok(Some(t));
     }
-    signs::negative(alloc, op, a, b)
+    if let Some(t) = signs::negative(alloc, op, a, b)? {
+        return Ok(Some(t));
+    }
+    if let Some(t) = equal::exclusive(alloc, op, a, b)? {
+        return Ok(Some(t));
+    }
+    if let Some(t) = of_width(alloc, Width::B, op, a, b)? {
+        return Ok(Some(t));
+    }
+    if let Some(t) = of_width(alloc, Width::H, op, a, b)? {
+        return Ok(Some(t));
+    }
+    of_width(alloc, Width::W, op, a, b)
+}
+
+/// What the rules on differences and sums of a width put in its place.
+fn of_width(
+    alloc: Global,
+    w: Width,
+    op: CCmp,
+    a: &CExpr,
+    b: &CExpr,
+) -> Result<Option<CCond>, AllocError>
+    ensures { IfOk result (λ o. IfSome o (ForCond (cmp_of op a.now b.now))) }
+{
+    if let Some(t) = equal::difference(alloc, w, op, a, b)? {
+        return Ok(Some(t));
+    }
+    equal::sum(alloc, w, op, a, b)
 }
 
 /// A negation.
