@@ -6,6 +6,7 @@
 mod chosen;
 mod compared;
 mod equal;
+mod joined;
 mod made;
 mod negated;
 mod shapes;
