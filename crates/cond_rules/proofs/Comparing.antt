@@ -39,7 +39,7 @@ same_test Le h x y z u e = absurd (let n : ⊥ = cc in n)
 
 -- ---- the sign and the overflow of a difference
 
-abbrev low_shape : Width → Shape → Shape
+abbrev pub low_shape : Width → Shape → Shape
 low_shape B s = joined And s (number 255)
 low_shape H s = joined And s (number 65535)
 low_shape W s = s

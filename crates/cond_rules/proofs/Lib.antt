@@ -6,3 +6,5 @@ pub mod Tests
 pub mod SignBits
 pub mod Comparing
 pub mod Within
+pub mod Equating
+pub mod Joining

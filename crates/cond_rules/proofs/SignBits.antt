@@ -202,3 +202,27 @@ sign_16 x =
 
 pub sign_32 : (x : ℕ) → x < 2 ^ 32 → nat_eq (x / 2 ^ 31) 0 ≡ nat_eq (bit_of (int_lt (signed_part 32 x) (signed_part 32 0))) 0
 sign_32 x h = rw (top_32 x h, signed_low (2 ^ 31) (2 ^ 32) x h, negative_at (2 ^ 31) (2 ^ 32) x h) refl
+
+-- ---- at most, by equal and less
+
+module _ (half full x y : ℕ) (e : full ≡ half + half) (xl : x < full) (yl : y < full) where
+  abbrev AtMost : Type 0
+  AtMost = not (int_lt (signed_at half full y) (signed_at half full x)) ≡ (nat_eq x y || int_lt (signed_at half full x) (signed_at half full y))
+
+  at_most : AtMost
+  at_most =
+      elim (cases_lt x half) [
+        | inl a ↦ elim (cases_lt y half) [ inl b ↦ rw (below_half half x a, below_half half y b) (grind (arith, nat_tests, ints)) | inr b ↦ rw (below_half half x a, above_half half y b) (grind (arith, nat_tests, ints)) ]
+        | inr a ↦ elim (cases_lt y half) [ inl b ↦ rw (above_half half x a, below_half half y b) (grind (arith, nat_tests, ints)) | inr b ↦ rw (above_half half x a, above_half half y b) (grind (arith, nat_tests, ints)) ]
+      ]
+
+pub at_most_8 : (x y : ℕ) → x < 2 ^ 8 → y < 2 ^ 8
+    → not (int_lt (signed_part 32 (sign_extended 8 y)) (signed_part 32 (sign_extended 8 x))) ≡ (nat_eq x y || int_lt (signed_part 32 (sign_extended 8 x)) (signed_part 32 (sign_extended 8 y)))
+at_most_8 x y h k = rw (less_8 y x k h, less_8 x y h k) (at_most (2 ^ 7) (2 ^ 8) x y refl h k)
+
+pub at_most_16 : (x y : ℕ) → x < 2 ^ 16 → y < 2 ^ 16
+    → not (int_lt (signed_part 32 (sign_extended 16 y)) (signed_part 32 (sign_extended 16 x))) ≡ (nat_eq x y || int_lt (signed_part 32 (sign_extended 16 x)) (signed_part 32 (sign_extended 16 y)))
+at_most_16 x y h k = rw (less_16 y x k h, less_16 x y h k) (at_most (2 ^ 15) (2 ^ 16) x y refl h k)
+
+pub at_most_32 : (x y : ℕ) → x < 2 ^ 32 → y < 2 ^ 32 → not (int_lt (signed_part 32 y) (signed_part 32 x)) ≡ (nat_eq x y || int_lt (signed_part 32 x) (signed_part 32 y))
+at_most_32 x y h k = rw (less_32 y x k h, less_32 x y h k) (at_most (2 ^ 31) (2 ^ 32) x y refl h k)

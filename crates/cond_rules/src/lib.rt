@@ -5,6 +5,8 @@
 
 mod chosen;
 mod compared;
+mod equal;
+mod joined;
 mod made;
 mod negated;
 mod shapes;

@@ -1,9 +1,10 @@
-//! The parts of Words that have a shape.
+//! The parts of Words and Conds that have a shape.
 
 ghost use Rattle.std.specs.Prelude.{◌≡◌, IfSome};
-ghost use Rattle.c_words.specs.Built.{num as num_of, bin as bin_of, pick as pick_of};
+ghost use Rattle.c_words.specs.Built.{num as num_of, bin as bin_of, pick as pick_of, cmp as cmp_of};
+ghost use Rattle.cond_rules.specs.Widths.{less_of};
 
-use c_syntax::{CBin, CCond, CExpr};
+use c_syntax::{CBin, CCmp, CCond, CExpr, CFn2};
 
 /// A number.
 pub(crate) fn as_number(e: &CExpr) -> Option<u32>
@@ -31,6 +32,26 @@ pub(crate) fn as_pick(e: &CExpr) -> Option<(&CCond, &CExpr, &CExpr)>
 {
     match e {
         CExpr::Pick(t, a, b) => Some((t.get(), a.get(), b.get())),
+        _ => None,
+    }
+}
+
+/// The two words that a comparison compares.
+pub(crate) fn as_cmp(op: CCmp, t: &CCond) -> Option<(&CExpr, &CExpr)>
+    ensures { IfSome result (λ p. t.now ≡ cmp_of op p.0.now p.1.now) }
+{
+    match t {
+        CCond::Cmp(o, a, b) if *o == op => Some((a, b)),
+        _ => None,
+    }
+}
+
+/// The two words that `lts` compares.
+pub(crate) fn as_less(e: &CExpr) -> Option<(&CExpr, &CExpr)>
+    ensures { IfSome result (λ p. e.now ≡ less_of p.0.now p.1.now) }
+{
+    match e {
+        CExpr::Fn2(f, a, b) if *f == CFn2::Lts => Some((a.get(), b.get())),
         _ => None,
     }
 }
