@@ -1,4 +1,3 @@
 pub mod Agreement
-pub mod Settled
 pub mod Short
 pub mod Tree

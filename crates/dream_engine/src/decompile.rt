@@ -9,7 +9,6 @@ ghost use Rattle.micro_ir.specs.Rule.{IsGiven};
 ghost use Rattle.regions.specs.Laws.{IsPlainOf};
 
 use crate::form::Form;
-use crate::settled::settled;
 use crate::short::shortened;
 use c_emit::emit;
 use c_print::print;
@@ -63,8 +62,8 @@ fn planned(alloc: Global, f: &Flow) -> Result<Option<Tree>, AllocError>
     }
 }
 
-// The function of what is discovered of a range, as its tree is written.
-fn written_of(
+// The function of what is discovered of a range.
+fn function_of(
     alloc: Global,
     m: &Image,
     r: &Range,
@@ -79,23 +78,6 @@ fn written_of(
     let short = shortened(alloc, flow)?;
     let tree = tree_of(alloc, &short, form)?;
     emit(alloc, &tree, r.entry)
-}
-
-// That function, made shorter.
-fn function_of(
-    alloc: Global,
-    m: &Image,
-    r: &Range,
-    found: &Found,
-    form: Form,
-) -> Result<CFun, AllocError>
-    requires no_place { HasNoPlace m.now r.now }
-    requires discovered { IsDiscovered m.now r.now found.now.places.items found.now.graph }
-    ensures { IfOk result (IsFunctionOf form m.now r.now) }
-{
-    let written = written_of(alloc, m, r, found, form)?;
-    let short = settled(alloc, written)?;
-    Ok(short)
 }
 
 /// The function of a range of an image, in a form.

@@ -5,7 +5,6 @@
 
 mod decompile;
 mod form;
-mod settled;
 mod short;
 
 pub use decompile::{decompile_fun, decompile_one};

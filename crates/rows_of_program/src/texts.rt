@@ -130,51 +130,51 @@ fn count(text: &[u8], word: &str) -> Result<usize, Fail> {
 fn prints_comparisons(rt: HostRuntime) -> Result<(), Fail> {
     let alloc = rt.alloc();
     let cases: [([u8; 2], u8, &str, &str); 11] = [
-        ([0x39, 0xd8], 0x74, "((eax == ebx))", "((eax != ebx))"),
-        ([0x39, 0xd8], 0x72, "((eax < ebx))", "((ebx <= eax))"),
-        ([0x39, 0xd8], 0x76, "((eax <= ebx))", "((ebx < eax))"),
+        ([0x39, 0xd8], 0x74, "(eax == ebx)", "(eax != ebx)"),
+        ([0x39, 0xd8], 0x72, "(eax < ebx)", "(ebx <= eax)"),
+        ([0x39, 0xd8], 0x76, "(eax <= ebx)", "(ebx < eax)"),
         (
             [0x39, 0xd8],
             0x7c,
-            "((lts(eax, ebx) != 0x0u))",
-            "((lts(eax, ebx) == 0x0u))",
+            "(lts(eax, ebx) != 0x0u)",
+            "(lts(eax, ebx) == 0x0u)",
         ),
         (
             [0x39, 0xd8],
             0x7e,
-            "((lts(ebx, eax) == 0x0u))",
-            "((lts(ebx, eax) != 0x0u))",
+            "(lts(ebx, eax) == 0x0u)",
+            "(lts(ebx, eax) != 0x0u)",
         ),
         (
             [0x39, 0xd8],
             0x78,
-            "((lts((eax - ebx), 0x0u) != 0x0u))",
-            "((lts((eax - ebx), 0x0u) == 0x0u))",
+            "(lts((eax - ebx), 0x0u) != 0x0u)",
+            "(lts((eax - ebx), 0x0u) == 0x0u)",
         ),
         (
             [0x38, 0xd8],
             0x72,
-            "(((eax & 0xffu) < (ebx & 0xffu)))",
-            "(((ebx & 0xffu) <= (eax & 0xffu)))",
+            "((eax & 0xffu) < (ebx & 0xffu))",
+            "((ebx & 0xffu) <= (eax & 0xffu))",
         ),
         (
             [0x38, 0xd8],
             0x7c,
-            "((lts(sx1(eax), sx1(ebx)) != 0x0u))",
-            "((lts(sx1(eax), sx1(ebx)) == 0x0u))",
+            "(lts(sx1(eax), sx1(ebx)) != 0x0u)",
+            "(lts(sx1(eax), sx1(ebx)) == 0x0u)",
         ),
-        ([0x85, 0xc0], 0x74, "((eax == 0x0u))", "((eax != 0x0u))"),
+        ([0x85, 0xc0], 0x74, "(eax == 0x0u)", "(eax != 0x0u)"),
         (
             [0x85, 0xc0],
             0x7e,
-            "((lts(0x0u, eax) == 0x0u))",
-            "((lts(0x0u, eax) != 0x0u))",
+            "(lts(0x0u, eax) == 0x0u)",
+            "(lts(0x0u, eax) != 0x0u)",
         ),
         (
             [0x85, 0xdb],
             0x78,
-            "((lts(ebx, 0x0u) != 0x0u))",
-            "((lts(ebx, 0x0u) == 0x0u))",
+            "(lts(ebx, 0x0u) != 0x0u)",
+            "(lts(ebx, 0x0u) == 0x0u)",
         ),
     ];
     for ([op, regs], jump, first, second) in cases {
@@ -184,7 +184,9 @@ fn prints_comparisons(rt: HostRuntime) -> Result<(), Fail> {
         let text = ran.out.bytes();
         let found = count(text, first)?.saturating_add(count(text, second)?);
         assert_eq!(rt; found, 1, "{first}");
-        assert_eq!(rt; count(text, "uint32_t")?, 0, "{first}");
+        for flag in ["zf", "cf", "sf", "of"] {
+            assert_eq!(rt; count(text, flag)?, 0, "{flag} of {first}");
+        }
     }
     Ok(())
 }
