@@ -1,10 +1,10 @@
 -- What operators give with a number on the right, with one word on both sides, and one after the other.
-use Rattle.std.proofs.Common.{◌≡◌, ℕ, ◌+◌, ◌-◌, ◌*◌, ◌/◌, ◌%◌, ◌^◌, ◌<◌, ◌≤◌, min, max, Bool, true, false, cond, ◌&&◌, nat_eq, nat_lt, Option, Some, None, refl, sym, ap, ◌∙◌, subst, arith, rules, lit<}
+use Rattle.std.proofs.Common.{◌≡◌, ℕ, ◌+◌, ◌-◌, ◌*◌, ◌/◌, ◌%◌, ◌^◌, ◌<◌, ◌≤◌, max, true, false, ◌&&◌, nat_eq, Some, refl, sym, ap, ◌∙◌, subst, arith, rules, lit<}
 use Rattle.std.specs.Prelude.{bit_and, bit_or, bit_xor}
 use Rattle.std.specs.Int.{bit_at}
 use Rattle.std.specs.Int.Bits.{and_self, and_zero_r, or_self, or_zero_r, xor_self, xor_zero_r}
 use Rattle.std.proofs.lemmas.Nat.{and_comm, or_comm, xor_comm, and_assoc, mod_below, mul-mod_first, mul-mod_second, and_le_l, or_lt, xor_lt}
-use Rattle.std.proofs.lemmas.Nat.Bits.{bit_at_or, bit_at_xor, bit_at-lt, same_from_bits}
+use Rattle.std.proofs.lemmas.Nat.Bits.{bit_at_or, bit_at_xor, same_from_bits}
 use Rattle.std.proofs.lemmas.Bool.{eqb-true}
 use Rattle.std.proofs.Math.Nat.{mul_comm, mul_assoc}
 use Rattle.dream_words.specs.Words.{low_part}

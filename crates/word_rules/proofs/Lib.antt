@@ -5,3 +5,5 @@ mod Covered
 mod Effects
 mod Looks
 mod Rules
+mod OtherRules
+mod PlainFor

@@ -1,5 +1,5 @@
 -- Which Words are plain, from their parts.
-use Rattle.std.proofs.Common.{◌≡◌, ℕ, Bool, true, false, cond, not, ◌&&◌, nat_eq, refl, sym, ap, ◌∙◌, subst}
+use Rattle.std.proofs.Common.{◌≡◌, ℕ, Bool, true, false, cond, not, ◌&&◌, nat_eq, refl, sym, ap, ◌∙◌}
 use Rattle.std.specs.Prelude.{IsTrue}
 use Rattle.dream_words.specs.declared.machine.Name.{Name}
 use Rattle.c_syntax.specs.declared.syntax.CBin.{CBin}
@@ -14,7 +14,7 @@ use Rattle.c_syntax.specs.declared.syntax.CCond.{CCond, CCond-F, roll-CCond, fol
 use Rattle.c_words.specs.Built.{num, name, word_not, bin, fn1, fn2, fn3, pick, cmp, cond_not, and, or}
 use Rattle.c_syntax.proofs.Induct.{WordCases, every_word}
 use Rattle.word_rules.specs.Numbers.{is_number_at, is_number}
-use Rattle.word_rules.specs.Plain.{Kind, nought, number, complement, other, is_nought, is_numeric, is_complement, drops_nought, stays, Look, look, word_look_at, cond_look_at, word_look, cond_look, is_plain, is_plain_cond, has_plain_parts, cond_has_plain_parts}
+use Rattle.word_rules.specs.Plain.{Kind, nought, number, complement, other, is_nought, is_numeric, is_complement, drops_nought, stays, Look, look, word_look_at, cond_look_at, word_look, cond_look, is_plain, is_plain_cond}
 
 word_look_layer : (y : CExpr-F CCond CExpr) → word_look (roll-CExpr y) ≡ word_look_at (e.map-CExpr CCond CExpr Look Look cond_look word_look y)
 word_look_layer y = e.fold-roll-CExpr Look Look cond_look_at word_look_at y
@@ -138,7 +138,7 @@ bin_number_plain op a k n h p =
     let j : (drops_nought op && is_nought (word_look (num k)).kind) ≡ false = ap (λ b. drops_nought op && b) (num_nought k) ∙ h in
     ap (λ w. w.whole) (bin_look op a (num k))
     ∙ and_one (is_plain a && is_plain (num k)) (stays op (word_look a).kind (word_look (num k)).kind) (and_one (is_plain a) (is_plain (num k)) p (num_plain k))
-      (stays_first (is_numeric (word_look a).kind) (is_numeric (word_look (num k)).kind) (drops_nought op) (is_nought (word_look (num k)).kind) i j)
+    (stays_first (is_numeric (word_look a).kind) (is_numeric (word_look (num k)).kind) (drops_nought op) (is_nought (word_look (num k)).kind) i j)
 
 -- where its second part is no number
 pub bin_plain : (op : CBin) (a b : CExpr) → is_number b ≡ false → IsTrue (is_plain a) → IsTrue (is_plain b) → IsTrue (is_plain (bin op a b))
@@ -147,4 +147,4 @@ bin_plain op a b n p q =
     let j : is_nought (word_look b).kind ≡ false = nought_is_numeric (word_look b).kind i in
     ap (λ w. w.whole) (bin_look op a b)
     ∙ and_one (is_plain a && is_plain b) (stays op (word_look a).kind (word_look b).kind) (and_one (is_plain a) (is_plain b) p q)
-      (stays_second (is_numeric (word_look a).kind) (is_numeric (word_look b).kind) (drops_nought op) (is_nought (word_look b).kind) i j)
+    (stays_second (is_numeric (word_look a).kind) (is_numeric (word_look b).kind) (drops_nought op) (is_nought (word_look b).kind) i j)

@@ -1,14 +1,13 @@
 -- Rules on operators of two Words: what may stand for one, and is plain.
-use Rattle.std.proofs.Common.{◌≡◌, ℕ, ◌+◌, ◌-◌, ◌^◌, ◌<◌, ◌≤◌, Bool, true, false, ◌&&◌, nat_eq, nat_lt, Option, Some, None, unwrap_or, refl, sym, ap, ◌∙◌, subst, arith, lit<}
+use Rattle.std.proofs.Common.{◌≡◌, ℕ, ◌+◌, ◌^◌, ◌<◌, ◌≤◌, true, false, ◌&&◌, Option, Some, None, unwrap_or, refl, sym, ap, ◌∙◌, subst, arith, lit<}
 use Rattle.std.specs.Prelude.{IsTrue, bit_and}
-use Rattle.std.proofs.lemmas.Bool.{lt-ltb, ltb-true}
+use Rattle.std.proofs.lemmas.Bool.{lt-ltb}
 use Rattle.run_parts.specs.World.{Names}
 use Rattle.c_syntax.specs.declared.syntax.CBin.{CBin}
 use Rattle.c_syntax.specs.declared.syntax.CBin.TheVariants.{And}
 use Rattle.c_syntax.specs.declared.syntax.CExpr.{CExpr}
 use Rattle.c_syntax.specs.Words.{bin_of}
 use Rattle.c_syntax.specs.Value.{both, word_of}
-use Rattle.c_syntax.specs.Formed.{is_word}
 use Rattle.c_words.specs.Built.{num, bin}
 use Rattle.micro_ir.specs.Rule.{has_flow_names}
 use Rattle.micro_ir.specs.Laws.{IsWordOrStuck}
@@ -17,10 +16,10 @@ use Rattle.word_rules.specs.Parts.{word_parts}
 use Rattle.word_rules.specs.Standing.{AreWords, ForWord, IsCoveredBy}
 use Rattle.word_rules.specs.Numbers.{is_number, IsNumber}
 use Rattle.word_rules.specs.Operators.{commutes, gives_first, gives_nought, cancels, absorbs}
-use Rattle.word_rules.specs.Plain.{drops_nought, stays, word_look, is_plain, has_plain_parts}
-use Rattle.word_rules.specs.Settled.{Settles, Becomes}
+use Rattle.word_rules.specs.Plain.{stays, word_look, is_plain, has_plain_parts}
+use Rattle.word_rules.specs.Settled.{Settles}
 use Rattle.word_rules.specs.Turns.{TurnsTo, Merges, MergesWith}
-use Rattle.word_rules.proofs.Congruence.{and_true, word_self, word_chain, bin_stands}
+use Rattle.word_rules.proofs.Congruence.{and_true, word_self, word_chain}
 use Rattle.word_rules.proofs.Covered.{both_case, value_of_num}
 use Rattle.word_rules.proofs.Effects.{commutes_so, first_so, first_else, nought_so, cancels_so, absorbs_so}
 use Rattle.word_rules.proofs.Layers as l

@@ -1,6 +1,6 @@
 -- Plain Words and Conds: nowhere in them stands an operation on two numbers, a sum with 0 or the like, a complement of a number
 -- or of a complement, or a negation of a negation.
-use Rattle.std.specs.Prelude.{ℕ, Bool, true, false, not, ◌&&◌, nat_eq, if◌then◌else◌}
+use Rattle.std.specs.Prelude.{Bool, true, false, not, ◌&&◌, nat_eq, if◌then◌else◌}
 use Rattle.c_syntax.specs.declared.syntax.CBin.{CBin}
 use Rattle.c_syntax.specs.declared.syntax.CBin.TheVariants as bin
 use Rattle.c_syntax.specs.declared.syntax.CExpr.{CExpr, CExpr-F, fold-CExpr}

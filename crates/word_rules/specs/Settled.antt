@@ -1,5 +1,5 @@
 -- A Word or a Cond that may stand for another and is plain.
-use Rattle.std.specs.Prelude.{◌≡◌, IsTrue}
+use Rattle.std.specs.Prelude.{IsTrue}
 use Rattle.c_syntax.specs.declared.syntax.CExpr.{CExpr}
 use Rattle.c_syntax.specs.declared.syntax.CCond.{CCond}
 use Rattle.word_rules.specs.Standing.{ForWord, ForCond}

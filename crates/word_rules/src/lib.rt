@@ -7,6 +7,9 @@ mod bins;
 mod masks;
 mod numbers;
 mod operators;
+mod plain;
+mod words;
 
 pub use bins::bin;
 pub use masks::known;
+pub use plain::{plain_cond, plain_word};
