@@ -1,5 +1,5 @@
 -- A flow with rewritten Words keeps the given one.
-use Rattle.std.proofs.Common.{◌≡◌, inl, inr, ℕ, suc, ◌+◌, ◌&&◌, List, [], ◌∷◌, refl, sym, ap, ◌∙◌, subst}
+use Rattle.std.proofs.Common.{◌≡◌, true, inl, inr, ℕ, suc, ◌+◌, ◌&&◌, List, [], ◌∷◌, refl, sym, ap, ◌∙◌, subst}
 use Rattle.std.specs.Prelude.{IsTrue}
 use Rattle.std.proofs.Math.Path.{fun_ext}
 use Rattle.run_parts.specs.Steps.{To, End, Nowhere}
