@@ -1,8 +1,9 @@
 -- Blocks with words in place.
-use Rattle.std.proofs.Common.{◌≡◌, inr, ℕ, zero, suc, ◌+◌, ◌<◌, ◌≤◌, ◌^◌, true, nat_le, List, [], ◌∷◌, ◌++◌, length, take, get_or, Some, map, refl, sym, ap, ◌∙◌, subst, arith}
+use Rattle.std.proofs.Common.{◌≡◌, ◌⊎◌, inl, inr, ℕ, zero, suc, ◌+◌, ◌<◌, ◌≤◌, ◌^◌, Bool, true, false, cond, not, ◌&&◌, ◌||◌, nat_le, List, [], ◌∷◌, ◌++◌, length, take, drop, get_or, Some, map, refl, sym, ap, ◌∙◌, subst, arith}
 use Rattle.std.specs.Prelude.{IsTrue, Contains, slice_get}
 use Rattle.std.proofs.lemmas.List.{take_more}
-use Rattle.std.proofs.Math.Seq.{take-length}
+use Rattle.std.proofs.Math.Seq.{take-length, drop-length}
+use Rattle.dream_words.specs.declared.machine.Name.{Name}
 use Rattle.run_parts.specs.Steps.{Next, Halt, Jam, arrive}
 use Rattle.run_parts.specs.Effects.{Doing}
 use Rattle.c_syntax.specs.Depth.{word_depth, cond_depth}
@@ -15,19 +16,54 @@ use Rattle.micro_ir.specs.Checked.{nodes_of}
 use Rattle.micro_ir.specs.Rule.{has_flow_names, cond_has_flow_names, is_flow_word, is_flow_stmt, are_flow_stmts, have_words, is_flow_end, is_flow_block, are_flow_blocks, nodes_in, IsGiven}
 use Rattle.micro_ir.specs.Run.{stmts_do, end_leads, block_leads}
 use Rattle.micro_ir.proofs.Values.{both_true}
-use Rattle.flow_passes.specs.Uses.{NameSet}
+use Rattle.flow_passes.specs.Uses.{NameSet, stmt_reads, stmt_sets}
+use Rattle.flow_passes.specs.Laws.{Within}
+use Rattle.flow_passes.proofs.Names.{or_left, alike_within}
+use Rattle.flag_liveness.specs.Before.{AreLive, is_unseen, live_before, live_before_all, live_at, live_in}
+use Rattle.flag_liveness.specs.Clean.{cleaned, cleaned_block, cleaned_flow}
+use Rattle.flag_liveness.proofs.Kept.{unmapped}
 use Rattle.flow_passes.specs.Alike.{ArrivesAlike}
 use Rattle.flow_passes.specs.Keeps.{EndsAlike, Keeps}
 use Rattle.flow_passes.proofs.Walking.{going_alike_keeps_runs}
 use Rattle.expr_fold.specs.declared.delayed.Delayed.{Delayed}
 use Rattle.expr_fold.specs.Delayed.{are_flow_delayed}
 use Rattle.expr_fold.specs.Placed.{placed_word, placed_cond, placed_end}
-use Rattle.expr_fold.specs.Follows.{DoesBehind, Follows, Sees, Takes, Waits, FollowsFirst}
-use Rattle.expr_fold.specs.Folds.{everything, FoldsBlock, FoldsBlocks}
+use Rattle.expr_fold.specs.Follows.{DoesBehind, Follows, Sees, Takes, TakesTwo, Waits, AllSeen, FollowsFirst, IsLost}
+use Rattle.expr_fold.specs.Folds.{LivesAt, LivesIn, FoldsBlock, FoldsBlocks}
 use Rattle.expr_fold.proofs.Named.{and_true}
 use Rattle.expr_fold.proofs.Placing.{word_named, cond_named}
 use Rattle.expr_fold.specs.Ends.{EndsWell, end_fits}
 use Rattle.expr_fold.proofs.Ending.{end_behind}
+
+-- ---- what is live
+
+seen_before : (b x y : Bool) → b ≡ false → cond b x y ≡ y
+seen_before true x y e = ap (λ t. cond t x y) e
+seen_before false x y e = refl
+
+-- what is seen after a statement is set by it, or is seen before it
+set_or_seen : (r x s : Bool) → x ≡ true → (s ≡ true) ⊎ ((r || (x && not s)) ≡ true)
+set_or_seen r x true h = inl refl
+set_or_seen true x false h = inr refl
+set_or_seen false true false h = inr refl
+set_or_seen false false false h = inr h
+
+on_right : (a b c : Bool) → b ≡ c → (a ≡ true) ⊎ (c ≡ true) → (a ≡ true) ⊎ (b ≡ true)
+on_right a b c e (inl h) = inl h
+on_right a b c e (inr h) = inr (e ∙ h)
+
+sees_one : (s : Stmt) (after : NameSet) → is_unseen s after ≡ false → Sees s (live_before s after) after
+sees_one s after e = record {
+  reads = λ n t. seen_before (is_unseen s after) (after n) (stmt_reads s n || (after n && not (stmt_sets s n))) e ∙ or_left (stmt_reads s n) _ t;
+  after_it = λ n t. on_right (stmt_sets s n) _ _ (seen_before (is_unseen s after) (after n) (stmt_reads s n || (after n && not (stmt_sets s n))) e) (set_or_seen (stmt_reads s n) (after n) (stmt_sets s n) t);
+}
+
+-- each of the statements sees what is live
+sees_each : (ss : List Stmt) (after : NameSet) → AllSeen ss after → (i : ℕ) (s : Stmt) → i < length ss → s ≡ get_or ss i s → Sees s (live_before_all (drop i ss) after) (live_before_all (drop (i + 1) ss) after)
+sees_each [] after h i s l e = absurd (omega (arith, l))
+sees_each (x ∷ xs) after h zero s l e = subst (λ y. Sees y (live_before x (live_before_all xs after)) (live_before_all xs after)) (sym e) (sees_one x (live_before_all xs after) h.0)
+sees_each (x ∷ xs) after h (suc i) s l e =
+    subst (λ n. Sees s (live_before_all (drop i xs) after) (live_before_all (drop n (x ∷ xs)) after)) (let g : suc (i + 1) ≡ suc i + 1 = omega arith in g) (sees_each xs after h.1 i s (omega (arith, l)) e)
 
 -- ---- statements one after another
 
@@ -50,20 +86,53 @@ rule_less (r ∷ rs) s h =
     let j = rule_less rs s k.1 in
     (and_true (is_flow_stmt r) (are_flow_stmts rs) k.0 j.0, j.1)
 
-pub follows_more : (all : List Stmt) (i : ℕ) (s : Stmt) (new : List Stmt) (p : List Delayed) (new' : List Stmt) (p' : List Delayed) → i < length all → s ≡ get_or all i s
-    → Takes s new p new' p' → FollowsFirst all i new p → FollowsFirst all (i + 1) new' p'
-follows_more all i s new p new' p' l e t h sees each =
-    subst (λ x. IsTrue (are_flow_stmts x) → Follows (sees 0) (sees (i + 1)) x new' p') (sym (take_more all i s l ∙ ap (λ x. take i all ++ x ∷ []) (sym e)))
-    (λ r. let k = rule_less (take i all) s r in t (sees 0) (sees i) (sees (i + 1)) (take i all) k.1 (each i s l e) (h sees each k.0))
+one_taken : (all : List Stmt) (i : ℕ) (s : Stmt) → i < length all → s ≡ get_or all i s → take (i + 1) all ≡ take i all ++ s ∷ []
+one_taken all i s l e = take_more all i s l ∙ ap (λ x. take i all ++ x ∷ []) (sym e)
+
+pub follows_more : (last : NameSet) (all : List Stmt) (i : ℕ) (s : Stmt) (new : List Stmt) (p : List Delayed) (new' : List Stmt) (p' : List Delayed) → i < length all → s ≡ get_or all i s
+    → Takes s new p new' p' → FollowsFirst last all i new p → FollowsFirst last all (i + 1) new' p'
+follows_more last all i s new p new' p' l e t h seen =
+    let first = live_before_all all last in
+    let next = live_before_all (drop (i + 1) all) last in
+    subst (λ x. IsTrue (are_flow_stmts x) → Follows first next x new' p') (sym (one_taken all i s l e))
+    (λ r. let k = rule_less (take i all) s r in t first (live_before_all (drop i all) last) next (take i all) k.1 (sees_each all last seen i s l e) (h seen k.0))
+
+-- the statement of a number
+pub stmt_at : (all : List Stmt) (i : ℕ) (s : Stmt) → slice_get all i ≡ Some s → (i < length all) × (s ≡ get_or all i s)
+stmt_at [] i s e = absurd (let z : ⊥ = cc in z)
+stmt_at (x ∷ xs) zero s e = (omega arith, let z : s ≡ x = cc in z)
+stmt_at (x ∷ xs) (suc i) s e = let k = stmt_at xs i s e in (let l = k.0 in omega (arith, l), k.1)
+
+rest_seen : (all : List Stmt) (last : NameSet) (i : ℕ) → AllSeen all last → AllSeen (drop i all) last
+rest_seen all last zero h = h
+rest_seen [] last (suc i) h = h
+rest_seen (x ∷ xs) last (suc i) h = rest_seen xs last i h.1
+
+-- two statements more
+pub follows_two : (last : NameSet) (all : List Stmt) (i : ℕ) (s r : Stmt) (t : Name) (new : List Stmt) (p : List Delayed) (new' : List Stmt) (p' : List Delayed) → i < length all → s ≡ get_or all i s
+    → slice_get all (i + 1) ≡ Some r → IsLost last (drop ((i + 1) + 1) all) t → TakesTwo s r t new p new' p' → FollowsFirst last all i new p → FollowsFirst last all ((i + 1) + 1) new' p'
+follows_two last all i s r t new p new' p' l e at lost two h seen =
+    let k = stmt_at all (i + 1) r at in
+    let first = live_before_all all last in
+    let between = live_before_all (drop (i + 1) all) last in
+    let next = live_before_all (drop ((i + 1) + 1) all) last in
+    subst (λ x. IsTrue (are_flow_stmts x) → Follows first next x new' p') (sym (one_taken all (i + 1) r k.0 k.1 ∙ ap (λ x. x ++ r ∷ []) (one_taken all i s l e)))
+    (λ rule.
+    let a = rule_less (take i all ++ s ∷ []) r rule in
+    let b = rule_less (take i all) s a.0 in
+    two first (live_before_all (drop i all) last) between next (take i all) b.1 a.1 (sees_each all last seen i s l e) (sees_each all last seen (i + 1) r k.0 k.1) (lost (rest_seen all last ((i + 1) + 1) seen)) (h seen b.0))
 
 -- all statements
-pub follows_all : (all : List Stmt) (i : ℕ) (new : List Stmt) (p : List Delayed) → length all ≤ i → i ≤ length all → FollowsFirst all i new p → FollowsFirst all (length all) new p
-follows_all all i new p a b h = subst (λ n. FollowsFirst all n new p) (let e : i ≡ length all = omega arith in e) h
+pub follows_all : (last : NameSet) (all : List Stmt) (i : ℕ) (new : List Stmt) (p : List Delayed) → length all ≤ i → i ≤ length all → FollowsFirst last all i new p → FollowsFirst last all (length all) new p
+follows_all last all i new p a b h = subst (λ n. FollowsFirst last all n new p) (let e : i ≡ length all = omega arith in e) h
 
 -- steps before and after a statement
 pub takes_between : (s : Stmt) (a : List Stmt) (p : List Delayed) (b : List Stmt) (q : List Delayed) (c : List Stmt) (r : List Delayed) (d : List Stmt) (t : List Delayed)
     → Waits a p b q → Takes s b q c r → Waits c r d t → Takes s a p d t
 takes_between s a p b q c r d t f g h before seen after old rule sees x = h before after (old ++ s ∷ []) (g before seen after old rule sees (f before seen old x))
+
+pub takes_two_after : (s r : Stmt) (t : Name) (a : List Stmt) (p : List Delayed) (b : List Stmt) (q : List Delayed) (c : List Stmt) (o : List Delayed) → Waits a p b q → TakesTwo s r t b q c o → TakesTwo s r t a p c o
+takes_two_after s r t a p b q c o f g before seen between after old rs rr s1 s2 lost x = g before seen between after old rs rr s1 s2 lost (f before seen old x)
 
 -- ---- ends
 
@@ -91,22 +160,51 @@ leads_by live seen p e Jam f h g = tt
 leads_by live seen p e (Halt o) f h g = ap (λ x. arrive x (end_leads (placed_end p e))) h
 leads_by live seen p e (Next w) f (u, r, b) g = subst (λ x. ArrivesAlike live (end_leads e w) (arrive x (end_leads (placed_end p e)))) (sym r) (end_behind live seen p e w u g b)
 
--- everything is seen before and after each statement
-sees_everything : (s : Stmt) → Sees s everything everything
-sees_everything s = record { reads = λ n t. refl; after_it = λ n t. inr refl }
+-- ---- without what nobody sees
 
-pub block_folds : (k : ℕ) (b c : Block) (p : List Delayed) → IsTrue (is_flow_block b) → FollowsFirst b.stmts (length b.stmts) c.stmts p → EndsWell (λ j. everything) everything p b.end
-    → c.at ≡ b.at → c.end ≡ placed_end p b.end → IsTrue (end_fits c.end) → FoldsBlock (λ j. everything) k b c
-block_folds k b c p rule follows well at e fits =
-    let live : ℕ → NameSet = λ j. everything in
+cleaned_step : (b : Bool) (s : Stmt) (cs : List Stmt) (after x : NameSet) → is_unseen s x ≡ b → live_before_all cs after ≡ x → live_before_all (cond b cs (s ∷ cs)) after ≡ live_before s x
+cleaned_step true s cs after x e h = h ∙ sym (ap (λ c. λ (n : Name). cond c (x n) (stmt_reads s n || (x n && not (stmt_sets s n)))) e)
+cleaned_step false s cs after x e h = ap (live_before s) h
+
+-- the same is live before
+cleaned_live : (ss : List Stmt) (after : NameSet) → live_before_all (cleaned ss after) after ≡ live_before_all ss after
+cleaned_live [] after = refl
+cleaned_live (s ∷ ss) after = cleaned_step (is_unseen s (live_before_all ss after)) s (cleaned ss after) after (live_before_all ss after) refl (cleaned_live ss after)
+
+seen_step : (b : Bool) (s : Stmt) (cs : List Stmt) (after x : NameSet) → is_unseen s x ≡ b → live_before_all cs after ≡ x → AllSeen cs after → AllSeen (cond b cs (s ∷ cs)) after
+seen_step true s cs after x e h a = a
+seen_step false s cs after x e h a = (ap (is_unseen s) h ∙ e, a)
+
+-- and somebody sees each statement
+cleaned_seen : (ss : List Stmt) (after : NameSet) → AllSeen (cleaned ss after) after
+cleaned_seen [] after = tt
+cleaned_seen (s ∷ ss) after = seen_step (is_unseen s (live_before_all ss after)) s (cleaned ss after) after (live_before_all ss after) refl (cleaned_live ss after) (cleaned_seen ss after)
+
+pub cleaned_lives : (f : Flow) (live : ℕ → NameSet) → AreLive f live → LivesIn live (cleaned_flow live f).blocks
+cleaned_lives f live h k c at =
+    let b = unmapped (cleaned_block live) f.blocks k c at in
+    subst (LivesAt live k) (sym b.2)
+    (record {
+      seen = cleaned_seen b.0.stmts (live_at b.0.end live);
+      start = subst (λ x. Within x (live k)) (sym (cleaned_live b.0.stmts (live_at b.0.end live))) (h k b.0 b.1);
+    })
+
+-- ---- a block folds
+
+pub block_folds : (live : ℕ → NameSet) (k : ℕ) (b c : Block) (p : List Delayed) → IsTrue (is_flow_block b) → LivesAt live k b → FollowsFirst (live_at b.end live) b.stmts (length b.stmts) c.stmts p → EndsWell live (live_at b.end live) p b.end
+    → c.at ≡ b.at → c.end ≡ placed_end p b.end → IsTrue (end_fits c.end) → FoldsBlock live k b c
+block_folds live k b c p rule lives follows well at e fits =
+    let last : NameSet = live_at b.end live in
     let t = both_true (are_flow_stmts b.stmts) (is_flow_end b.end) rule in
-    let h = follows live (λ i s l g. sees_everything s) (subst (λ x. IsTrue (are_flow_stmts x)) (sym (take-length b.stmts)) t.0) in
-    let h2 : Follows everything everything b.stmts c.stmts p = subst (λ x. Follows everything everything x c.stmts p) (take-length b.stmts) h in
+    let h = follows lives.seen (subst (λ x. IsTrue (are_flow_stmts x)) (sym (take-length b.stmts)) t.0) in
+    let h2 : Follows (live_in b live) last b.stmts c.stmts p =
+    subst (λ x. Follows (live_in b live) (live_before_all x last) b.stmts c.stmts p) (drop-length b.stmts)
+    (subst (λ x. Follows (live_in b live) (live_before_all (drop (length b.stmts) b.stmts) last) x c.stmts p) (take-length b.stmts) h) in
     record {
       keeps = record { at = at; end = subst (EndsAlike b.end) (sym e) (ends_alike p b.end); loads = h2.loads; stores = h2.stores; calls = h2.calls };
       rule = and_true (are_flow_stmts c.stmts) (is_flow_end c.end) h2.rule (subst (λ x. IsTrue (is_flow_end x)) (sym e) (end_rule p b.end h2.delayed_rule t.1 (subst (λ x. IsTrue (end_fits x)) e fits)));
       leads = λ w u iw iu al. subst (λ x. ArrivesAlike live (block_leads b w) (arrive (stmts_do c.stmts u) (end_leads x))) (sym e)
-          (leads_by live everything p b.end (stmts_do b.stmts w) (stmts_do c.stmts u) (h2.does w u iw iu al) well);
+          (leads_by live last p b.end (stmts_do b.stmts w) (stmts_do c.stmts u) (h2.does w u iw iu (alike_within (live_in b live) (live k) w u lives.start al)) well);
     }
 
 -- ---- blocks

@@ -1,5 +1,5 @@
 -- Names that lag still lag after a step.
-use Rattle.std.proofs.Common.{◌≡◌, ℕ, true, false, not, ◌||◌, ◌⊎◌, inl, inr, List, [], ◌∷◌, ◌++◌, Some, refl, sym, ap, ◌∙◌}
+use Rattle.std.proofs.Common.{◌≡◌, ℕ, true, false, not, ◌&&◌, ◌||◌, ◌⊎◌, inl, inr, List, [], ◌∷◌, ◌++◌, Some, refl, sym, ap, ◌∙◌}
 use Rattle.std.specs.Prelude.{IsTrue, slice_get, remove}
 use Rattle.dream_words.specs.declared.machine.Name.{Name}
 use Rattle.dream_words.specs.declared.machine.Name.TheVariants as n
@@ -8,14 +8,16 @@ use Rattle.run_parts.specs.World.{Names, with_name, answered}
 use Rattle.c_syntax.specs.declared.syntax.CExpr.{CExpr}
 use Rattle.c_syntax.specs.Value.{word_of}
 use Rattle.micro_ir.specs.Rule.{is_flow_target}
+use Rattle.micro_ir.proofs.Values.{both_true}
 use Rattle.flow_passes.specs.Uses.{NameSet, same_name, is_register, is_flag}
 use Rattle.flow_passes.specs.Laws.{Within, SameNames}
 use Rattle.flow_passes.proofs.Names.{same_self, answered_same}
 use Rattle.expr_fold.specs.declared.delayed.Delayed.{Delayed}
 use Rattle.expr_fold.specs.Delayed.{is_delayed, none_reads, without, are_flags, AreHeld}
+use Rattle.expr_fold.specs.Said.{AreSaid}
 use Rattle.expr_fold.specs.Follows.{Lags}
-use Rattle.expr_fold.proofs.Named.{same_true, same_turned, set_here, set_there, true_or_false, not_true, not_both, second_false}
-use Rattle.expr_fold.proofs.Lists.{held_append, delayed_append, filter_held, filter_delayed, pick_held, pick_delayed, unread_held, flags_delayed}
+use Rattle.expr_fold.proofs.Named.{same_true, same_turned, set_here, set_there, true_or_false, and_true, not_true, not_both, second_false}
+use Rattle.expr_fold.proofs.Lists.{held_append, delayed_append, filter_held, filter_delayed, pick_held, pick_delayed, unread_held, said_held, said_delayed, flags_delayed}
 
 -- what is seen less lags too
 pub lag_within : (less more : NameSet) (p : List Delayed) (v u : Names) → Within less more → Lags more p v u → Lags less p v u
@@ -32,12 +34,14 @@ set_others : (seen : NameSet) (p : List Delayed) (i : ℕ) (d : Delayed) (v u : 
 set_others seen p i d v u e t l k s f (inl g) = set_here u d.name (v d.name) k t g ∙ ap v (same_true d.name k g)
 set_others seen p i d v u e t l k s f (inr g) = set_there u d.name (v d.name) k g ∙ l.others k s (pick_delayed p i d k e g f)
 
-pub lag_set : (seen : NameSet) (p : List Delayed) (i : ℕ) (d : Delayed) (v u : Names) → slice_get p i ≡ Some d → IsTrue (is_flow_target d.name) → IsTrue (none_reads (remove p i) d.name) → Lags seen p v u
-    → Lags seen (remove p i) v (with_name u d.name (v d.name))
-lag_set seen p i d v u e t n l = record {
-  held = unread_held (remove p i) d.name v u (v d.name) n (pick_held p i d v u e l.held).1;
-  others = λ k s f. set_others seen p i d v u e t l k s f (true_or_false (same_name d.name k));
-}
+pub lag_set : (seen : NameSet) (p : List Delayed) (i : ℕ) (d : Delayed) (q : List Delayed) (v u : Names) → slice_get p i ≡ Some d → IsTrue (is_flow_target d.name) → AreSaid d (remove p i) q → Lags seen p v u
+    → Lags seen q v (with_name u d.name (v d.name))
+lag_set seen p i d q v u e t n l =
+    let k = pick_held p i d v u e l.held in
+    record {
+      held = said_held d (remove p i) q v u (v d.name) t k.0 n k.1;
+      others = λ k s f. set_others seen p i d v u e t l k s (sym (said_delayed d (remove p i) q k n) ∙ f) (true_or_false (same_name d.name k));
+    }
 
 -- and its word has the value of its name
 pub set_value : (seen : NameSet) (p : List Delayed) (i : ℕ) (d : Delayed) (v u : Names) → slice_get p i ≡ Some d → Lags seen p v u → word_of d.word u ≡ Some (v d.name)
@@ -100,6 +104,26 @@ lag_lose seen after n p v u s l = record {
   held = filter_held (λ d. not (same_name d.name n)) p v u v u (λ d t e. e) l.held;
   others = λ k i f. let g = s k i in l.others k g.0 (others_delayed n k p g.1 f);
 }
+
+-- a name is set that isn't seen after it
+pub lag_lost : (seen after : NameSet) (n : Name) (x : ℕ) (p : List Delayed) (v u : Names) → ((k : Name) → IsTrue (after k) → IsTrue (seen k) × (same_name n k ≡ false)) → Lags seen p v u → Lags after (without n p) (with_name v n x) u
+lag_lost seen after n x p v u s l = record {
+  held = others_held n x p v u l.held;
+  others = λ k i f. let g = s k i in l.others k g.0 (others_delayed n k p g.1 f) ∙ sym (set_there v n x k g.1);
+}
+
+-- a word is set in the old names to two, of which the first isn't seen again, and in the new ones to the second alone
+pub lag_moved : (seen after : NameSet) (t r : Name) (x : ℕ) (p : List Delayed) (v u : Names) → IsTrue (is_flow_target r) → IsTrue (none_reads (without r (without t p)) r)
+    → ((k : Name) → IsTrue (after k) → IsTrue (same_name r k) ⊎ (IsTrue (seen k) × (same_name t k ≡ false))) → Lags seen p v u
+    → Lags after (without r (without t p)) (with_name (with_name v t x) r x) (with_name u r x)
+lag_moved seen after t r x p v u g n s l =
+    let left : NameSet = λ k. seen k && not (same_name t k) in
+    lag_load left after r x (without t p) (with_name v t x) u g n (λ k i. by_case k (s k i))
+    (lag_lost seen left t x p v u (λ k i. let b = both_true (seen k) (not (same_name t k)) i in (b.0, not_true (same_name t k) b.1)) l)
+  where
+    by_case : (k : Name) → IsTrue (same_name r k) ⊎ (IsTrue (seen k) × (same_name t k ≡ false)) → IsTrue (same_name r k) ⊎ IsTrue (seen k && not (same_name t k))
+    by_case k (inl i) = inl i
+    by_case k (inr i) = inr (and_true (seen k) (not (same_name t k)) i.0 (ap not i.1))
 
 -- ---- a call is answered
 

@@ -9,3 +9,4 @@ pub mod Stepping
 pub mod Ending
 pub mod Folded
 pub mod Made
+pub mod Losing

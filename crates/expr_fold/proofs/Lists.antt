@@ -1,17 +1,23 @@
 -- Lists of delayed sets that lose some or gain one.
-use Rattle.std.proofs.Common.{◌≡◌, ℕ, zero, suc, Bool, true, false, cond, not, ◌&&◌, ◌||◌, ◌⊎◌, inl, inr, List, [], ◌∷◌, ◌++◌, Some, refl, sym, ap, ◌∙◌, subst}
+use Rattle.std.proofs.Common.{◌≡◌, ℕ, zero, suc, ◌+◌, ◌<◌, ◌≤◌, nat_le, length, take, get_or, arith, Bool, true, false, cond, not, ◌&&◌, ◌||◌, ◌⊎◌, inl, inr, List, [], ◌∷◌, ◌++◌, Some, refl, sym, ap, ◌∙◌, subst}
 use Rattle.std.specs.Prelude.{IsTrue, slice_get, remove, filter}
 use Rattle.dream_words.specs.declared.machine.Name.{Name}
 use Rattle.run_parts.specs.World.{Names, with_name}
 use Rattle.c_syntax.specs.declared.syntax.CExpr.{CExpr}
 use Rattle.c_syntax.specs.Value.{word_of}
-use Rattle.micro_ir.specs.Rule.{is_flow_target, is_flow_word}
+use Rattle.std.proofs.lemmas.List.{take_more}
+use Rattle.std.proofs.Math.Seq.{take-length}
+use Rattle.c_syntax.specs.Depth.{word_depth}
+use Rattle.micro_ir.specs.Rule.{is_flow_target, is_flow_word, has_flow_names}
 use Rattle.micro_ir.proofs.Values.{both_true}
 use Rattle.flow_passes.specs.Uses.{same_name, is_flag, word_reads}
 use Rattle.flow_passes.proofs.Reading.{same_value}
 use Rattle.expr_fold.specs.declared.delayed.Delayed.{Delayed}
 use Rattle.expr_fold.specs.Delayed.{is_delayed, none_reads, are_flags, are_flow_delayed, AreHeld}
-use Rattle.expr_fold.proofs.Named.{same_true, true_or_false, or_false, first_false, second_false, and_true, not_true, not_both, set_there}
+use Rattle.expr_fold.specs.Said.{IsSaid, AreSaid}
+use Rattle.flow_passes.proofs.Names.{same_self}
+use Rattle.expr_fold.proofs.Named.{same_true, true_or_false, or_false, first_false, second_false, and_true, not_true, not_both, set_here, set_there}
+use Rattle.expr_fold.proofs.Placing.{word_placed, word_unplaced}
 
 -- ---- one more
 
@@ -102,6 +108,55 @@ unread_held [] m v u x n h = tt
 unread_held (d ∷ ds) m v u x n h =
     let k = both_true (not (word_reads d.word m)) (none_reads ds m) n in
     (value_unread d.word u m x (not_true (word_reads d.word m) k.0) ∙ h.0, unread_held ds m v u x k.1 h.1)
+
+-- ---- words that are said by a name that is set
+
+-- a word has after the set the value that it had
+said_value : (d : Delayed) (a b : CExpr) (u : Names) (x : ℕ) → IsTrue (is_flow_target d.name) → word_of d.word u ≡ Some x → IsSaid d a b → word_of b (with_name u d.name x) ≡ word_of a u
+said_value d a b u x t e s =
+    let v = with_name u d.name x in
+    sym (word_placed (d ∷ []) v u (e ∙ ap (λ y. Some y) (sym (set_here u d.name x d.name t (same_self d.name))), tt) b
+    (λ k r f. sym (set_there u d.name x k (first_false (same_name d.name k) false f)))) ∙ ap (λ y. word_of y u) s.0
+
+pub said_held : (d : Delayed) (p q : List Delayed) (v u : Names) (x : ℕ) → IsTrue (is_flow_target d.name) → word_of d.word u ≡ Some x → AreSaid d p q → AreHeld p v u → AreHeld q v (with_name u d.name x)
+said_held d [] [] v u x t e s h = tt
+said_held d [] (y ∷ ys) v u x t e s h = absurd s
+said_held d (z ∷ zs) [] v u x t e s h = absurd s
+said_held d (z ∷ zs) (y ∷ ys) v u x t e s h =
+    (said_value d z.word y.word u x t e s.1 ∙ h.0 ∙ ap (λ n. Some (v n)) (sym s.0), said_held d zs ys v u x t e s.2 h.1)
+
+pub said_delayed : (d : Delayed) (p q : List Delayed) (n : Name) → AreSaid d p q → is_delayed q n ≡ is_delayed p n
+said_delayed d [] [] n s = refl
+said_delayed d [] (y ∷ ys) n s = absurd s
+said_delayed d (z ∷ zs) [] n s = absurd s
+said_delayed d (z ∷ zs) (y ∷ ys) n s = ap (λ m. same_name m n || is_delayed ys n) s.0 ∙ ap (λ b. same_name z.name n || b) (said_delayed d zs ys n s.2)
+
+pub said_rule : (d : Delayed) (p q : List Delayed) → IsTrue (is_flow_target d.name) → AreSaid d p q → IsTrue (are_flow_delayed p) → IsTrue (are_flow_delayed q)
+said_rule d [] [] t s h = h
+said_rule d [] (y ∷ ys) t s h = absurd s
+said_rule d (z ∷ zs) [] t s h = absurd s
+said_rule d (z ∷ zs) (y ∷ ys) t s h =
+    let k = both_true (is_flow_target z.name && is_flow_word z.word) (are_flow_delayed zs) h in
+    let j = both_true (is_flow_target z.name) (is_flow_word z.word) k.0 in
+    let names = (both_true (has_flow_names z.word) (nat_le (word_depth z.word) 64) j.1).0 in
+    let word = and_true (has_flow_names y.word) (nat_le (word_depth y.word) 64) (word_unplaced d t y.word (subst (λ w. IsTrue (has_flow_names w)) (sym s.1.0) names)) s.1.1 in
+    and_true (is_flow_target y.name && is_flow_word y.word) (are_flow_delayed ys) (and_true (is_flow_target y.name) (is_flow_word y.word) (ap is_flow_target s.0 ∙ j.0) word) (said_rule d zs ys t s.2 k.1)
+
+-- one more
+pub said_more : (d : Delayed) (p q : List Delayed) (x y : Delayed) → AreSaid d p q → y.name ≡ x.name → IsSaid d x.word y.word → AreSaid d (p ++ x ∷ []) (q ++ y ∷ [])
+said_more d [] [] x y s e i = (e, i, tt)
+said_more d [] (w ∷ ws) x y s e i = absurd s
+said_more d (z ∷ zs) [] x y s e i = absurd s
+said_more d (z ∷ zs) (w ∷ ws) x y s e i = (s.0, s.1, said_more d zs ws x y s.2 e i)
+
+pub said_next : (d : Delayed) (all : List Delayed) (i : ℕ) (x y : Delayed) (q q' : List Delayed) → i < length all → x ≡ get_or all i x → q' ≡ q ++ y ∷ [] → y.name ≡ x.name → IsSaid d x.word y.word → AreSaid d (take i all) q → AreSaid d (take (i + 1) all) q'
+said_next d all i x y q q' l g e f s h =
+    subst (AreSaid d (take (i + 1) all)) (sym e) (subst (λ z. AreSaid d z (q ++ y ∷ [])) (sym (take_more all i x l ∙ ap (λ z. take i all ++ z ∷ []) (sym g))) (said_more d (take i all) q x y h f s))
+
+pub said_all : (d : Delayed) (all : List Delayed) (i : ℕ) (q : List Delayed) → length all ≤ i → i ≤ length all → AreSaid d (take i all) q → AreSaid d all q
+said_all d all i q a b h =
+    let e : i ≡ length all = omega arith in
+    subst (λ z. AreSaid d z q) (ap (λ n. take n all) e ∙ take-length all) h
 
 -- ---- flags
 

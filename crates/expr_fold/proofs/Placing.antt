@@ -11,7 +11,7 @@ use Rattle.c_syntax.specs.Words.{bin_of, cmp_of, fn1_of, fn2_of, fn3_of}
 use Rattle.c_syntax.specs.Value.{each, both, all_three, picked, word_of, truth_of}
 use Rattle.c_syntax.specs.Formed.{cond_names}
 use Rattle.c_syntax.proofs.Induct.{WordCases, every_word, every_cond}
-use Rattle.micro_ir.specs.Rule.{is_flow_target, is_flow_word, word_names, has_flow_names, cond_has_flow_names}
+use Rattle.micro_ir.specs.Rule.{is_flow_name, is_flow_target, is_flow_word, word_names, has_flow_names, cond_has_flow_names}
 use Rattle.micro_ir.proofs.Values.{both_true, names_layer}
 use Rattle.flow_passes.specs.Uses.{NameSet, same_name, word_reads, cond_reads, word_reads_at, cond_reads_at}
 use Rattle.flow_passes.proofs.Names.{or_left, or_right, same_self}
@@ -162,3 +162,47 @@ module _ (p : List Delayed) (rule : IsTrue (are_flow_delayed p)) where
 
   pub cond_named : (t : CCond) → NamesCond t
   cond_named t = every_cond name_cases t
+
+-- ---- and back
+
+-- the name for which the word stands, and every other one
+unstands_names : (d : Delayed) (n : Name) (b : Bool) → same_name d.name n ≡ b → IsTrue (is_flow_target d.name) → IsTrue (has_flow_names (cond b d.word (roll-CExpr (CExpr-F.Name n)))) → IsTrue (has_flow_names (roll-CExpr (CExpr-F.Name n)))
+unstands_names d n true e t h = subst IsTrue (sym (names_layer (CExpr-F.Name n))) (subst (λ m. IsTrue (is_flow_name m)) (same_true d.name n e) (both_true (is_flow_name d.name) _ t).0)
+unstands_names d n false e t h = h
+
+module _ (d : Delayed) (target : IsTrue (is_flow_target d.name)) where
+  abbrev UnnamesWord : CExpr → Type 0
+  UnnamesWord a = IsTrue (has_flow_names (placed_word (d ∷ []) a)) → IsTrue (has_flow_names a)
+
+  abbrev UnnamesCond : CCond → Type 0
+  UnnamesCond t = IsTrue (cond_has_flow_names (placed_cond (d ∷ []) t)) → IsTrue (cond_has_flow_names t)
+
+  un_word : (y z : CExpr-F CCond CExpr) → placed_word (d ∷ []) (roll-CExpr y) ≡ roll-CExpr z
+      → (IsTrue (word_names (e.map-CExpr CCond CExpr Bool Bool cond_has_flow_names has_flow_names z)) → IsTrue (word_names (e.map-CExpr CCond CExpr Bool Bool cond_has_flow_names has_flow_names y))) → UnnamesWord (roll-CExpr y)
+  un_word y z r g h = subst IsTrue (sym (names_layer y)) (g (subst IsTrue (names_layer z) (subst (λ q. IsTrue (has_flow_names q)) r h)))
+
+  un_cond : (y z : CCond-F CCond CExpr) → placed_cond (d ∷ []) (roll-CCond y) ≡ roll-CCond z
+      → (IsTrue (cond_names (c.map-CCond CCond CExpr Bool Bool cond_has_flow_names has_flow_names z)) → IsTrue (cond_names (c.map-CCond CCond CExpr Bool Bool cond_has_flow_names has_flow_names y))) → UnnamesCond (roll-CCond y)
+  un_cond y z r g h = subst IsTrue (sym (cond_names_layer y)) (g (subst IsTrue (cond_names_layer z) (subst (λ q. IsTrue (cond_has_flow_names q)) r h)))
+
+  un_two : (a b c d : Bool) → (IsTrue a → IsTrue c) → (IsTrue b → IsTrue d) → IsTrue (a && b) → IsTrue (c && d)
+  un_two a b c d f g h = let k = both_true a b h in and_true c d (f k.0) (g k.1)
+
+  unname_cases : WordCases UnnamesWord UnnamesCond
+  unname_cases = record {
+    num = λ n. un_word (CExpr-F.Num n) (CExpr-F.Num n) (placed_word_layer (d ∷ []) (CExpr-F.Num n)) (λ h. h);
+    name = λ n h. unstands_names d n (same_name d.name n) refl target (subst (λ q. IsTrue (has_flow_names q)) (placed_word_layer (d ∷ []) (CExpr-F.Name n)) h);
+    not_word = λ a ha. un_word (CExpr-F.«CExpr::Not» a) (CExpr-F.«CExpr::Not» (placed_word (d ∷ []) a)) (placed_word_layer (d ∷ []) (CExpr-F.«CExpr::Not» a)) ha;
+    bin = λ op a b ha hb. un_word (CExpr-F.Bin op a b) (CExpr-F.Bin op (placed_word (d ∷ []) a) (placed_word (d ∷ []) b)) (placed_word_layer (d ∷ []) (CExpr-F.Bin op a b)) (un_two _ _ _ _ ha hb);
+    fn1 = λ g a ha. un_word (CExpr-F.Fn1 g a) (CExpr-F.Fn1 g (placed_word (d ∷ []) a)) (placed_word_layer (d ∷ []) (CExpr-F.Fn1 g a)) ha;
+    fn2 = λ g a b ha hb. un_word (CExpr-F.Fn2 g a b) (CExpr-F.Fn2 g (placed_word (d ∷ []) a) (placed_word (d ∷ []) b)) (placed_word_layer (d ∷ []) (CExpr-F.Fn2 g a b)) (un_two _ _ _ _ ha hb);
+    fn3 = λ g a b x ha hb hx. un_word (CExpr-F.Fn3 g a b x) (CExpr-F.Fn3 g (placed_word (d ∷ []) a) (placed_word (d ∷ []) b) (placed_word (d ∷ []) x)) (placed_word_layer (d ∷ []) (CExpr-F.Fn3 g a b x)) (un_two _ _ _ _ ha (un_two _ _ _ _ hb hx));
+    pick = λ t a b ht ha hb. un_word (CExpr-F.Pick t a b) (CExpr-F.Pick (placed_cond (d ∷ []) t) (placed_word (d ∷ []) a) (placed_word (d ∷ []) b)) (placed_word_layer (d ∷ []) (CExpr-F.Pick t a b)) (un_two _ _ _ _ ht (un_two _ _ _ _ ha hb));
+    cmp = λ op a b ha hb. un_cond (CCond-F.Cmp op a b) (CCond-F.Cmp op (placed_word (d ∷ []) a) (placed_word (d ∷ []) b)) (placed_cond_layer (d ∷ []) (CCond-F.Cmp op a b)) (un_two _ _ _ _ ha hb);
+    not_cond = λ t ht. un_cond (CCond-F.«CCond::Not» t) (CCond-F.«CCond::Not» (placed_cond (d ∷ []) t)) (placed_cond_layer (d ∷ []) (CCond-F.«CCond::Not» t)) ht;
+    both = λ t r ht hr. un_cond (CCond-F.And t r) (CCond-F.And (placed_cond (d ∷ []) t) (placed_cond (d ∷ []) r)) (placed_cond_layer (d ∷ []) (CCond-F.And t r)) (un_two _ _ _ _ ht hr);
+    either = λ t r ht hr. un_cond (CCond-F.Or t r) (CCond-F.Or (placed_cond (d ∷ []) t) (placed_cond (d ∷ []) r)) (placed_cond_layer (d ∷ []) (CCond-F.Or t r)) (un_two _ _ _ _ ht hr);
+  }
+
+  pub word_unplaced : (a : CExpr) → UnnamesWord a
+  word_unplaced a = every_word unname_cases a

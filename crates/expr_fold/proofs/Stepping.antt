@@ -3,7 +3,7 @@ use Rattle.std.proofs.Common.{◌≡◌, ℕ, nat_le, List, [], ◌∷◌, ◌++
 use Rattle.std.specs.Prelude.{IsTrue, slice_get, remove}
 use Rattle.dream_words.specs.declared.machine.Name.{Name}
 use Rattle.dream_words.specs.declared.machine.Width.{Width}
-use Rattle.c_syntax.specs.declared.syntax.CExpr.{CExpr}
+use Rattle.c_syntax.specs.declared.syntax.CExpr.{CExpr, CExpr-F, roll-CExpr}
 use Rattle.c_syntax.specs.Depth.{word_depth}
 use Rattle.micro_ir.specs.declared.flow.Stmt.{Stmt}
 use Rattle.micro_ir.specs.declared.flow.Stmt.TheVariants as stmt
@@ -13,17 +13,18 @@ use Rattle.micro_ir.proofs.Values.{both_true}
 use Rattle.expr_fold.specs.declared.delayed.Delayed.{Delayed}
 use Rattle.expr_fold.specs.Delayed.{none_reads, without, are_flags, are_flow_delayed}
 use Rattle.expr_fold.specs.Placed.{placed_word}
-use Rattle.expr_fold.specs.Follows.{Waits, Takes}
+use Rattle.expr_fold.specs.Said.{AreSaid}
+use Rattle.expr_fold.specs.Follows.{Waits, Takes, TakesTwo}
 use Rattle.expr_fold.specs.Fits.{word_fits}
 use Rattle.expr_fold.proofs.Named.{and_true}
 use Rattle.expr_fold.proofs.Placing.{word_named}
-use Rattle.expr_fold.proofs.Taking.{waits_set, waits_back, takes_set, takes_load, takes_store, takes_ext, takes_trap}
+use Rattle.expr_fold.proofs.Taking.{waits_set, waits_back, takes_set, takes_load, takes_two, takes_store, takes_ext, takes_trap}
 
--- what was set aside is done
-pub step_set : (new : List Stmt) (p : List Delayed) (i : ℕ) (d : Delayed) (q : List Delayed) (new' : List Stmt) (p' : List Delayed) → slice_get p i ≡ Some d → q ≡ remove p i → IsTrue (none_reads q d.name)
-    → new' ≡ new ++ stmt.Set d.name d.word ∷ [] → p' ≡ q → Waits new p new' p'
-step_set new p i d q new' p' e f n g h =
-    subst (λ x. Waits new p x p') (sym g) (subst (λ y. Waits new p (new ++ stmt.Set d.name d.word ∷ []) y) (sym (h ∙ f)) (waits_set new p i d e (subst (λ y. IsTrue (none_reads y d.name)) f n)))
+-- what was set aside is done, and the others are said by its name
+pub step_set : (new : List Stmt) (p : List Delayed) (i : ℕ) (d : Delayed) (q said : List Delayed) (new' : List Stmt) (p' : List Delayed) → slice_get p i ≡ Some d → q ≡ remove p i → AreSaid d q said
+    → new' ≡ new ++ stmt.Set d.name d.word ∷ [] → p' ≡ said → Waits new p new' p'
+step_set new p i d q said new' p' e f n g h =
+    subst (λ x. Waits new p x p') (sym g) (subst (λ y. Waits new p (new ++ stmt.Set d.name d.word ∷ []) y) (sym h) (waits_set new p i d said e (subst (λ y. AreSaid d y said) f n)))
 
 -- or stands at the end
 pub step_back : (new : List Stmt) (p : List Delayed) (i : ℕ) (d : Delayed) (q : List Delayed) (new' : List Stmt) (p' : List Delayed) → slice_get p i ≡ Some d → q ≡ remove p i → new' ≡ new → p' ≡ q ++ d ∷ [] → Waits new p new' p'
@@ -52,6 +53,17 @@ step_take_load m width a word new p q new' p' e f g n h k =
     (λ before seen after old t s j.
     let b = both_true (is_flow_target m) (is_flow_word a) t in
     takes_load m width a new p (and_true (is_flow_target m) (is_flow_word (placed_word p a)) b.0 (placed_flow p a word e f j.delayed_rule b.1)) (subst (λ y. IsTrue (none_reads y m)) g n) before seen after old t s j))
+
+pub step_take_into : (t r : Name) (width : Width) (a word : CExpr) (new : List Stmt) (p q o : List Delayed) (new' : List Stmt) (p' : List Delayed) → word ≡ placed_word p a → IsTrue (word_fits word)
+    → q ≡ without t p → o ≡ without r q → IsTrue (none_reads o r) → new' ≡ new ++ stmt.Load r width word ∷ [] → p' ≡ o
+    → TakesTwo (stmt.Load t width a) (stmt.Set r (roll-CExpr (CExpr-F.Name t))) t new p new' p'
+step_take_into t r width a word new p q o new' p' e f g g2 n h k =
+    let whole : o ≡ without r (without t p) = g2 ∙ ap (without r) g in
+    subst (λ x. TakesTwo (stmt.Load t width a) (stmt.Set r (roll-CExpr (CExpr-F.Name t))) t new p x p') (sym (h ∙ ap (λ w. new ++ stmt.Load r width w ∷ []) e))
+    (subst (λ y. TakesTwo (stmt.Load t width a) (stmt.Set r (roll-CExpr (CExpr-F.Name t))) t new p (new ++ stmt.Load r width (placed_word p a) ∷ []) y) (sym (k ∙ whole))
+    (λ before seen between after old rs rr s1 s2 lost j.
+    let b = both_true (is_flow_target t) (is_flow_word a) rs in
+    takes_two t r width a new p (placed_flow p a word e f j.delayed_rule b.1) (subst (λ y. IsTrue (none_reads y r)) whole n) before seen between after old rs rr s1 s2 lost j))
 
 pub step_take_store : (width : Width) (a b place word : CExpr) (new : List Stmt) (p : List Delayed) (new' : List Stmt) (p' : List Delayed) → place ≡ placed_word p a → word ≡ placed_word p b → IsTrue (word_fits place) → IsTrue (word_fits word)
     → new' ≡ new ++ stmt.Store width place word ∷ [] → p' ≡ p → Takes (stmt.Store width a b) new p new' p'

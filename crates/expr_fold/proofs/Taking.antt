@@ -6,7 +6,7 @@ use Rattle.dream_words.specs.declared.machine.Width.{Width}
 use Rattle.run_parts.specs.Steps.{Next, Halt, Jam, having, then_do}
 use Rattle.run_parts.specs.World.{World, Names}
 use Rattle.run_parts.specs.Effects.{Doing, set_word}
-use Rattle.c_syntax.specs.declared.syntax.CExpr.{CExpr}
+use Rattle.c_syntax.specs.declared.syntax.CExpr.{CExpr, CExpr-F, roll-CExpr}
 use Rattle.micro_ir.specs.declared.flow.Stmt.{Stmt}
 use Rattle.micro_ir.specs.declared.flow.Stmt.TheVariants as stmt
 use Rattle.micro_ir.specs.Rule.{is_flow_target, is_flow_word, is_flow_stmt, are_flow_stmts}
@@ -18,11 +18,12 @@ use Rattle.flow_passes.specs.Keeps.{loads_of_stmt, loads_of_stmts}
 use Rattle.expr_fold.specs.declared.delayed.Delayed.{Delayed}
 use Rattle.expr_fold.specs.Delayed.{none_reads, without, are_flags, are_flow_delayed}
 use Rattle.expr_fold.specs.Placed.{placed_word, placed_stmt}
-use Rattle.expr_fold.specs.Follows.{Lags, Behind, DoesBehind, Follows, Waits, Takes}
+use Rattle.expr_fold.specs.Said.{AreSaid}
+use Rattle.expr_fold.specs.Follows.{Lags, Behind, DoesBehind, Follows, Waits, Takes, TakesTwo}
 use Rattle.expr_fold.proofs.Named.{and_true}
-use Rattle.expr_fold.proofs.Lists.{rule_append, filter_rule, pick_rule}
+use Rattle.expr_fold.proofs.Lists.{rule_append, filter_rule, pick_rule, said_rule}
 use Rattle.expr_fold.proofs.Lagging.{lag_set, set_value, lag_back}
-use Rattle.expr_fold.proofs.Doing.{behind_names, store_behind, trap_does, load_behind, ext_behind, delay_behind}
+use Rattle.expr_fold.proofs.Doing.{behind_names, store_behind, trap_does, load_behind, moved_behind, ext_behind, delay_behind}
 
 -- ---- one more statement
 
@@ -92,23 +93,23 @@ from_names seen after p q w u d g b k = subst (λ x. DoesBehind after q d (g x))
 
 -- ---- steps between statements
 
-set_does : (seen : NameSet) (p : List Delayed) (i : ℕ) (d : Delayed) (w : World) (v : Names) → slice_get p i ≡ Some d → IsTrue (is_flow_target d.name) → IsTrue (none_reads (remove p i) d.name) → Lags seen p w.names v
-    → DoesBehind seen (remove p i) (Next w) (stmt_does (stmt.Set d.name d.word) (record w { names = v }))
-set_does seen p i d w v e t n l =
-    subst (λ o. DoesBehind seen (remove p i) (Next w) (having o (λ x. Next (set_word d.name x (record w { names = v }))))) (sym (set_value seen p i d w.names v e l))
-    (set_word d.name (w.names d.name) (record w { names = v }), refl, record { names = lag_set seen p i d w.names v e t n l; mem = refl; pages = refl; left = refl; calls = refl })
+set_does : (seen : NameSet) (p : List Delayed) (i : ℕ) (d : Delayed) (q : List Delayed) (w : World) (v : Names) → slice_get p i ≡ Some d → IsTrue (is_flow_target d.name) → AreSaid d (remove p i) q → Lags seen p w.names v
+    → DoesBehind seen q (Next w) (stmt_does (stmt.Set d.name d.word) (record w { names = v }))
+set_does seen p i d q w v e t n l =
+    subst (λ o. DoesBehind seen q (Next w) (having o (λ x. Next (set_word d.name x (record w { names = v }))))) (sym (set_value seen p i d w.names v e l))
+    (set_word d.name (w.names d.name) (record w { names = v }), refl, record { names = lag_set seen p i d q w.names v e t n l; mem = refl; pages = refl; left = refl; calls = refl })
 
--- a delayed set is done
-pub waits_set : (new : List Stmt) (p : List Delayed) (i : ℕ) (d : Delayed) → slice_get p i ≡ Some d → IsTrue (none_reads (remove p i) d.name) → Waits new p (new ++ stmt.Set d.name d.word ∷ []) (remove p i)
-waits_set new p i d e n before seen old h =
+-- a delayed set is done, and the others are said by its name
+pub waits_set : (new : List Stmt) (p : List Delayed) (i : ℕ) (d : Delayed) (q : List Delayed) → slice_get p i ≡ Some d → AreSaid d (remove p i) q → Waits new p (new ++ stmt.Set d.name d.word ∷ []) q
+waits_set new p i d q e n before seen old h =
     let k = pick_rule p i d e h.delayed_rule in
     let t = both_true (is_flow_target d.name) (is_flow_word d.word) k.0 in
     record {
-      does = λ w u iw iu al. subst (DoesBehind seen (remove p i) (stmts_do old w)) (sym (one_more new (stmt.Set d.name d.word) u))
-          (wait_by seen p (remove p i) (stmts_do old w) (stmts_do new u) (stmt_does (stmt.Set d.name d.word)) (h.does w u iw iu al)
-          (λ x y b. from_names seen seen p (remove p i) x y (Next x) (stmt_does (stmt.Set d.name d.word)) b (λ v l. set_does seen p i d x v e t.0 n l)));
+      does = λ w u iw iu al. subst (DoesBehind seen q (stmts_do old w)) (sym (one_more new (stmt.Set d.name d.word) u))
+          (wait_by seen p q (stmts_do old w) (stmts_do new u) (stmt_does (stmt.Set d.name d.word)) (h.does w u iw iu al)
+          (λ x y b. from_names seen seen p q x y (Next x) (stmt_does (stmt.Set d.name d.word)) b (λ v l. set_does seen p i d q x v e t.0 n l)));
       rule = rule_more new (stmt.Set d.name d.word) h.rule k.0;
-      delayed_rule = k.1;
+      delayed_rule = said_rule d (remove p i) q t.0 n k.1;
       loads = loads_more new (stmt.Set d.name d.word) ∙ (let r = h.loads in omega (arith, r));
       stores = stores_more new (stmt.Set d.name d.word) ∙ (let r = h.stores in omega (arith, r));
       calls = calls_more new (stmt.Set d.name d.word) ∙ (let r = h.calls in omega (arith, r));
@@ -181,4 +182,28 @@ takes_set m a new p r before seen after old t s h =
       loads = (let x = h.loads in let y = loads_more old (stmt.Set m a) in omega (arith, x, y));
       stores = (let x = h.stores in let y = stores_more old (stmt.Set m a) in omega (arith, x, y));
       calls = (let x = h.calls in let y = calls_more old (stmt.Set m a) in omega (arith, x, y));
+    }
+
+-- two statements, of which the second sets a register to what the first loaded
+pub takes_two : (t r : Name) (width : Width) (a : CExpr) (new : List Stmt) (p : List Delayed) → IsTrue (is_flow_word (placed_word p a)) → IsTrue (none_reads (without r (without t p)) r)
+    → TakesTwo (stmt.Load t width a) (stmt.Set r (roll-CExpr (CExpr-F.Name t))) t new p (new ++ stmt.Load r width (placed_word p a) ∷ []) (without r (without t p))
+takes_two t r width a new p f n before seen between after old rs rr s1 s2 lost h =
+    let q = without r (without t p) in
+    let load = stmt.Load t width a in
+    let set = stmt.Set r (roll-CExpr (CExpr-F.Name t)) in
+    let made = stmt.Load r width (placed_word p a) in
+    let gt = (both_true (is_flow_target t) (is_flow_word a) rs).0 in
+    let gr = (both_true (is_flow_target r) (is_flow_word (roll-CExpr (CExpr-F.Name t))) rr).0 in
+    let two : (w : World) → stmts_do ((old ++ load ∷ []) ++ set ∷ []) w ≡ then_do (stmts_do old w) (λ x. then_do (stmt_does load x) (stmt_does set)) =
+    λ w. one_more (old ++ load ∷ []) set w ∙ ap (λ d. then_do d (stmt_does set)) (one_more old load w) ∙ then_then (stmts_do old w) (stmt_does load) (stmt_does set) in
+    record {
+      does = λ w u iw iu al. subst (λ x. DoesBehind after q x (stmts_do (new ++ made ∷ []) u)) (sym (two w))
+          (subst (DoesBehind after q (then_do (stmts_do old w) (λ x. then_do (stmt_does load x) (stmt_does set)))) (sym (one_more new made u))
+          (both_by seen after p q (stmts_do old w) (stmts_do new u) (λ x. then_do (stmt_does load x) (stmt_does set)) (stmt_does made) (h.does w u iw iu al)
+          (λ x y b. from_names seen after p q x y (then_do (stmt_does load x) (stmt_does set)) (stmt_does made) b (λ v l. moved_behind t r width a seen between after p x v gt gr n s1 s2 lost l))));
+      rule = rule_more new made h.rule (and_true (is_flow_target r) (is_flow_word (placed_word p a)) gr f);
+      delayed_rule = filter_rule _ (without t p) (filter_rule _ p h.delayed_rule);
+      loads = loads_more new made ∙ (let x = h.loads in let y = loads_more old load in let z = loads_more (old ++ load ∷ []) set in omega (arith, x, y, z));
+      stores = stores_more new made ∙ (let x = h.stores in let y = stores_more old load in let z = stores_more (old ++ load ∷ []) set in omega (arith, x, y, z));
+      calls = calls_more new made ∙ (let x = h.calls in let y = calls_more old load in let z = calls_more (old ++ load ∷ []) set in omega (arith, x, y, z));
     }

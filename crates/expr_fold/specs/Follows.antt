@@ -1,5 +1,7 @@
 -- How the new statements of a block follow the old ones while some sets are delayed.
-use Rattle.std.specs.Prelude.{◌≡◌, ◌⊎◌, ℕ, ◌+◌, ◌<◌, ◌++◌, false, List, [], ◌∷◌, length, take, slice_index_or, IsTrue}
+use Rattle.std.specs.Prelude.{◌≡◌, ◌⊎◌, ℕ, ◌+◌, ◌++◌, false, List, [], ◌∷◌, Some, slice_get, take, drop, IsTrue}
+use Rattle.c_syntax.specs.declared.syntax.CExpr.{CExpr-F, roll-CExpr}
+use Rattle.micro_ir.specs.declared.flow.Stmt.TheVariants as stmt
 use Rattle.dream_words.specs.declared.machine.Name.{Name}
 use Rattle.run_parts.specs.Steps.{Next, Halt, Jam}
 use Rattle.run_parts.specs.World.{World, Names}
@@ -13,6 +15,7 @@ use Rattle.flow_passes.specs.Uses.{NameSet, stmt_reads, stmt_sets}
 use Rattle.flow_passes.specs.Alike.{Alike}
 use Rattle.flow_passes.specs.Keeps.{loads_of_stmts}
 use Rattle.flow_passes.specs.Laws.{Within}
+use Rattle.flag_liveness.specs.Before.{is_unseen, live_before_all}
 use Rattle.expr_fold.specs.declared.delayed.Delayed.{Delayed}
 use Rattle.expr_fold.specs.Delayed.{is_delayed, are_flow_delayed, AreHeld}
 
@@ -60,7 +63,24 @@ abbrev pub Takes : Stmt → List Stmt → List Delayed → List Stmt → List De
 Takes s new p new' p' = (before seen after : NameSet) (old : List Stmt) → IsTrue (is_flow_stmt s) → Sees s seen after
     → Follows before seen old new p → Follows before after (old ++ s ∷ []) new' p'
 
--- What follows the first i statements of a list, whatever is seen before and after each.
-abbrev pub FollowsFirst : List Stmt → ℕ → List Stmt → List Delayed → Type 0
-FollowsFirst all i new p = (sees : ℕ → NameSet) → ((k : ℕ) (s : Stmt) → k < length all → s ≡ slice_index_or all k s → Sees s (sees k) (sees (k + 1)))
-    → IsTrue (are_flow_stmts (take i all)) → Follows (sees 0) (sees i) (take i all) new p
+-- Two statements are taken at once, where a name isn't seen after them.
+abbrev pub TakesTwo : Stmt → Stmt → Name → List Stmt → List Delayed → List Stmt → List Delayed → Type 0
+TakesTwo s r t new p new' p' = (before seen between after : NameSet) (old : List Stmt) → IsTrue (is_flow_stmt s) → IsTrue (is_flow_stmt r) → Sees s seen between → Sees r between after
+    → after t ≡ false → Follows before seen old new p → Follows before after ((old ++ s ∷ []) ++ r ∷ []) new' p'
+
+-- somebody sees each of the statements, given what is live after them
+abbrev pub AllSeen : List Stmt → NameSet → Type 0
+AllSeen [] after = Unit {0}
+AllSeen (s ∷ ss) after = (is_unseen s (live_before_all ss after) ≡ false) × AllSeen ss after
+
+-- What follows the first i statements of a list, where somebody sees each: what is live is seen.
+abbrev pub FollowsFirst : NameSet → List Stmt → ℕ → List Stmt → List Delayed → Type 0
+FollowsFirst last all i new p = AllSeen all last → IsTrue (are_flow_stmts (take i all)) → Follows (live_before_all all last) (live_before_all (drop i all) last) (take i all) new p
+
+-- a name isn't seen again in statements and after them, where somebody sees each
+abbrev pub IsLost : NameSet → List Stmt → Name → Type 0
+IsLost last ss t = AllSeen ss last → live_before_all ss last t ≡ false
+
+-- the statement of a number sets a register to a name, which isn't seen after it
+abbrev pub Moves : NameSet → List Stmt → ℕ → Name → Name → Type 0
+Moves last all i t r = (slice_get all i ≡ Some (stmt.Set r (roll-CExpr (CExpr-F.Name t)))) × IsLost last (drop (i + 1) all) t

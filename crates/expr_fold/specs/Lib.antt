@@ -5,3 +5,4 @@ pub mod Fits
 pub mod Folds
 pub mod Ends
 pub mod Adds
+pub mod Said

@@ -1,30 +1,81 @@
 //! Blocks with words in place.
 
-ghost use Rattle.std.specs.Prelude.{◌≡◌, ℕ, [], length, true, IsTrue, IfOk, IfSome};
+ghost use Rattle.std.specs.Prelude.{◌≡◌, ◌<◌, ℕ, [], length, true, IsTrue, IfOk, IfSome};
 ghost use Rattle.micro_ir.specs.Rule.{is_flow_block, are_flow_blocks};
+ghost use Rattle.flow_passes.specs.Uses.{NameSet};
+ghost use Rattle.flag_liveness.specs.Before.{live_at};
+ghost use Rattle.flag_liveness.specs.Lives.{live_of};
 ghost use Rattle.expr_fold.specs.Placed.{placed_end};
 ghost use Rattle.expr_fold.specs.Follows.{FollowsFirst};
-ghost use Rattle.expr_fold.specs.Ends.{end_fits, no_register, leaves_of, may_end};
-ghost use Rattle.expr_fold.specs.Folds.{everything, FoldsBlock, FoldsBlocks};
-ghost use Rattle.expr_fold.specs.Adds.{AddsFolded};
+ghost use Rattle.expr_fold.specs.Ends.{end_fits, none_seen_after};
+ghost use Rattle.expr_fold.specs.Folds.{LivesAt, LivesIn, FoldsBlock, FoldsBlocks};
+ghost use Rattle.expr_fold.specs.Adds.{AddsFolded, Advances};
 
 use crate::delayed::Delayed;
 use crate::folding::{DEPTH, Folding};
-use crate::{fits, placed, policy};
-use flow_passes::is_register;
+use crate::{ends, fits, loads, placed, policy};
+use flag_liveness::Live;
 use micro_ir::{Block, End, Stmt};
 use sqlite_items::Items;
 use std::alloc::{AllocError, Global};
 
+/// Takes the statement at a place. The answer is the next place; None where it can't be taken.
+fn take_one(
+    folding: &mut Folding,
+    alloc: Global,
+    stmts: &[Stmt],
+    at: usize,
+) -> Result<Option<usize>, AllocError>
+    requires { at < length stmts.now }
+    ensures { IfOk result (λ o. IfSome o (λ j. (last : NameSet) → Advances last stmts.now at j folding.old folding.new)) }
+{
+    if policy::step(folding, alloc, &stmts[at], &stmts[at + 1..])? {
+        Ok(Some(at + 1))
+    } else {
+        Ok(None)
+    }
+}
+
+/// Takes the statement at a place, and with a load the next one, where that sets a register to the loaded name and nothing
+/// else reads it. The answer is the next place; None where they can't be taken.
+fn take_next(
+    folding: &mut Folding,
+    alloc: Global,
+    live: &Live,
+    stmts: &[Stmt],
+    end: &End,
+    at: usize,
+) -> Result<Option<usize>, AllocError>
+    requires { at < length stmts.now }
+    ensures { IfOk result (λ o. IfSome o (λ j. Advances (live_at end.now (live_of live.now)) stmts.now at j folding.old folding.new)) }
+{
+    if let Stmt::Load(t, width, e) = &stmts[at]
+        && let Some(r) = loads::moved_to(live, stmts, end, at + 1, *t)
+    {
+        if policy::step_into(folding, alloc, *t, *width, e, r)? {
+            return Ok(Some(at + 2));
+        }
+        return Ok(None);
+    }
+    take_one(folding, alloc, stmts, at)
+}
+
 /// The statements of a block. None where they can't be taken.
-fn statements(alloc: Global, stmts: &[Stmt]) -> Result<Option<Folding>, AllocError>
-    ensures { IfOk result (λ o. IfSome o (λ g. FollowsFirst stmts.now (length stmts.now) g.done g.delayed.items)) }
+fn statements(
+    alloc: Global,
+    live: &Live,
+    stmts: &[Stmt],
+    end: &End,
+) -> Result<Option<Folding>, AllocError>
+    ensures { IfOk result (λ o. IfSome o (λ g. FollowsFirst (live_at end.now (live_of live.now)) stmts.now (length stmts.now) g.done g.delayed.items)) }
 {
     let mut folding = Folding::new(alloc);
-    for (i, s) in stmts.iter().enumerate() {
-        if !policy::step(&mut folding, alloc, s, &stmts[i + 1..])? {
+    let mut at = 0;
+    while at < stmts.len() {
+        let Some(next) = take_next(&mut folding, alloc, live, stmts, end, at)? else {
             return Ok(None);
-        }
+        };
+        at = next;
     }
     Ok(Some(folding))
 }
@@ -59,61 +110,30 @@ fn end_fits(e: &End) -> bool
     }
 }
 
-/// No register is delayed.
-fn has_no_register(delayed: &[Delayed]) -> bool
-    ensures { result ≡ no_register delayed.now }
-{
-    for d in delayed {
-        if is_register(d.name) {
-            return false;
-        }
-    }
-    true
-}
-
-/// An end leaves the function.
-fn leaves(e: &End) -> bool
-    ensures { result ≡ leaves_of e.now }
-{
-    match e {
-        End::Go(_) => false,
-        End::Branch(_, _, _) => false,
-        End::Switch(_, _) => false,
-        End::Return => true,
-        End::Leave(_) => true,
-    }
-}
-
-/// What is delayed may be dropped at an end.
-fn may_end(delayed: &[Delayed], e: &End) -> bool
-    ensures { result ≡ may_end e.now delayed.now }
-{
-    if leaves(e) {
-        has_no_register(delayed)
-    } else {
-        delayed.len() == 0
-    }
-}
-
 /// The statements of a block, with what may be seen after its end. None where they can't be taken.
-fn closed(alloc: Global, b: &Block) -> Result<Option<Folding>, AllocError>
-    ensures { IfOk result (λ o. IfSome o (λ g. FollowsFirst b.now.stmts (length b.now.stmts) g.done g.delayed.items)) }
+fn closed(alloc: Global, live: &Live, b: &Block) -> Result<Option<Folding>, AllocError>
+    ensures { IfOk result (λ o. IfSome o (λ g. FollowsFirst (live_at b.now.end (live_of live.now)) b.now.stmts (length b.now.stmts) g.done g.delayed.items)) }
 {
-    let Some(folding) = statements(alloc, b.stmts.as_slice())? else {
+    let Some(folding) = statements(alloc, live, b.stmts.as_slice(), &b.end)? else {
         return Ok(None);
     };
     let mut folding = folding;
-    policy::close(&mut folding, alloc, leaves(&b.end))?;
+    policy::close(&mut folding, alloc, live, &b.end)?;
     Ok(Some(folding))
 }
 
 /// An end with delayed words in place. None where its words are too deep, or what is delayed may be seen after it.
-fn ended(alloc: Global, delayed: &[Delayed], e: &End) -> Result<Option<End>, AllocError>
+fn ended(
+    alloc: Global,
+    live: &Live,
+    delayed: &[Delayed],
+    e: &End,
+) -> Result<Option<End>, AllocError>
     ensures placed { IfOk result (λ o. IfSome o (λ r. r ≡ placed_end delayed.now e.now)) }
     ensures fits { IfOk result (λ o. IfSome o (λ r. IsTrue (end_fits r))) }
-    ensures unseen { IfOk result (λ o. IfSome o (λ r. IsTrue (may_end e.now delayed.now))) }
+    ensures unseen { IfOk result (λ o. IfSome o (λ r. IsTrue (none_seen_after e.now (live_of live.now) delayed.now))) }
 {
-    if !may_end(delayed, e) {
+    if !ends::none_seen_after(live, e, delayed) {
         return Ok(None);
     }
     let end = placed_end(alloc, delayed, e)?;
@@ -124,14 +144,14 @@ fn ended(alloc: Global, delayed: &[Delayed], e: &End) -> Result<Option<End>, All
 }
 
 /// A block with words in place. None where that can't be.
-fn block(alloc: Global, b: &Block) -> Result<Option<Block>, AllocError>
+fn block(alloc: Global, live: &Live, b: &Block) -> Result<Option<Block>, AllocError>
     requires { IsTrue (is_flow_block b.now) }
-    ensures { IfOk result (λ o. IfSome o (λ c. (k : ℕ) → FoldsBlock (λ j. everything) k b.now c)) }
+    ensures { IfOk result (λ o. IfSome o (λ c. (k : ℕ) → LivesAt (live_of live.now) k b.now → FoldsBlock (live_of live.now) k b.now c)) }
 {
-    let Some(folding) = closed(alloc, b)? else {
+    let Some(folding) = closed(alloc, live, b)? else {
         return Ok(None);
     };
-    let Some(end) = ended(alloc, &folding.delayed, &b.end)? else {
+    let Some(end) = ended(alloc, live, &folding.delayed, &b.end)? else {
         return Ok(None);
     };
     Ok(Some(Block {
@@ -142,11 +162,16 @@ fn block(alloc: Global, b: &Block) -> Result<Option<Block>, AllocError>
 }
 
 /// Adds a block with words in place. False where that can't be.
-fn add_block(alloc: Global, b: &Block, made: &mut Items<Block>) -> Result<bool, AllocError>
+fn add_block(
+    alloc: Global,
+    live: &Live,
+    b: &Block,
+    made: &mut Items<Block>,
+) -> Result<bool, AllocError>
     requires { IsTrue (is_flow_block b.now) }
-    ensures { IfOk result (λ is. IsTrue is → AddsFolded b.now made.old made.new) }
+    ensures { IfOk result (λ is. IsTrue is → AddsFolded (live_of live.now) b.now made.old made.new) }
 {
-    let Some(c) = block(alloc, b)? else {
+    let Some(c) = block(alloc, live, b)? else {
         return Ok(false);
     };
     made.push(c)?;
@@ -154,13 +179,18 @@ fn add_block(alloc: Global, b: &Block, made: &mut Items<Block>) -> Result<bool, 
 }
 
 /// Blocks with words in place. None where that can't be.
-pub(crate) fn blocks(alloc: Global, all: &[Block]) -> Result<Option<Items<Block>>, AllocError>
-    requires { IsTrue (are_flow_blocks all.now) }
-    ensures { IfOk result (λ o. IfSome o (λ cs. FoldsBlocks (λ j. everything) 0 all.now cs)) }
+pub(crate) fn blocks(
+    alloc: Global,
+    live: &Live,
+    all: &[Block],
+) -> Result<Option<Items<Block>>, AllocError>
+    requires rule { IsTrue (are_flow_blocks all.now) }
+    requires lives { LivesIn (live_of live.now) all.now }
+    ensures { IfOk result (λ o. IfSome o (λ cs. FoldsBlocks (live_of live.now) 0 all.now cs)) }
 {
     let mut made = Items::new(alloc);
     for b in all {
-        if !add_block(alloc, b, &mut made)? {
+        if !add_block(alloc, live, b, &mut made)? {
             return Ok(None);
         }
     }

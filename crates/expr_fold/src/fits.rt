@@ -7,7 +7,7 @@ use c_syntax::{CCond, CExpr};
 
 /// Whether a Word is at most so deep.
 #[cycle(fits)]
-pub(crate) fn word_fits(e: &CExpr, depth: u32) -> bool
+pub fn word_fits(e: &CExpr, depth: u32) -> bool
     ensures { result ≡ nat_le (word_depth e.now) depth }
 {
     if depth == 0 {
@@ -35,7 +35,7 @@ pub(crate) fn word_fits(e: &CExpr, depth: u32) -> bool
 
 /// Whether a Cond is at most so deep.
 #[cycle(fits)]
-pub(crate) fn cond_fits(t: &CCond, depth: u32) -> bool
+pub fn cond_fits(t: &CCond, depth: u32) -> bool
     ensures { result ≡ nat_le (cond_depth t.now) depth }
 {
     if depth == 0 {

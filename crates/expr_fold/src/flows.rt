@@ -5,6 +5,8 @@ ghost use Rattle.micro_ir.specs.Rule.{IsGiven};
 ghost use Rattle.flow_passes.specs.Keeps.{Keeps};
 
 use crate::blocks::blocks;
+use crate::seen::seen_flow;
+use flag_liveness::liveness;
 use micro_ir::Flow;
 use std::alloc::{AllocError, Global};
 
@@ -14,7 +16,9 @@ pub fn fold(alloc: Global, f: Flow) -> Result<Flow, AllocError>
     ensures given { IfOk result (λ g. IsGiven g) }
     ensures keeps { IfOk result (λ g. Keeps f g) }
 {
-    match blocks(alloc, f.blocks.as_slice())? {
+    let live = liveness(alloc, &f)?;
+    let f = seen_flow(alloc, f, &live)?;
+    match blocks(alloc, &live, f.blocks.as_slice())? {
         None => Ok(f),
         Some(folded) => Ok(Flow {
             entry: f.entry,

@@ -3,10 +3,11 @@
 ghost use Rattle.std.specs.Prelude.{◌≡◌, ◌<◌, ◌++◌, [], ◌∷◌, length, slice_get, remove, Some, true, IsTrue, OnOk, IfOk};
 ghost use Rattle.micro_ir.specs.declared.flow.Stmt.TheVariants as stmt;
 ghost use Rattle.expr_fold.specs.Delayed.{is_delayed, none_reads, without, are_flags};
-ghost use Rattle.expr_fold.specs.Follows.{Waits, Takes};
+ghost use Rattle.expr_fold.specs.Follows.{Waits, Takes, TakesTwo};
+ghost use Rattle.c_syntax.specs.declared.syntax.CExpr.{CExpr-F, roll-CExpr};
 
 use crate::delayed::Delayed;
-use crate::{fits, placed};
+use crate::{fits, placed, said};
 use dream_words::{Name, Width};
 use flow_passes::{is_flag, same_name, word_reads};
 use micro_ir::{Expr, Stmt};
@@ -94,19 +95,24 @@ impl Folding {
         self.delayed.retain(|d| !same_name(d.name, n));
     }
 
-    /// Does a delayed set now, unless another delayed word reads its name.
-    pub fn set_at(&mut self, at: usize) -> Result<(), AllocError>
+    /// Does a delayed set now. The other delayed words say by its name what they said by its word; where one of them reads
+    /// the name's old word elsewhere, it is delayed on.
+    pub fn set_at(&mut self, alloc: Global, at: usize) -> Result<(), AllocError>
         requires { at < length self.old.delayed.items }
         ensures { OnOk result (Waits self.old.done self.old.delayed.items self.new.done self.new.delayed.items) }
     {
         let d = self.take_out(at);
-        if none_reads(&self.delayed, d.name) {
-            let Delayed { name, word } = d;
-            self.perform(Stmt::Set(name, word))?;
-            Ok(())
-        } else {
-            self.delay(d)?;
-            Ok(())
+        match said::all_said(alloc, &d, &self.delayed)? {
+            Some(delayed) => {
+                self.delayed = delayed;
+                let Delayed { name, word } = d;
+                self.perform(Stmt::Set(name, word))?;
+                Ok(())
+            }
+            None => {
+                self.delay(d)?;
+                Ok(())
+            }
         }
     }
 
@@ -142,6 +148,31 @@ impl Folding {
             return Ok(false);
         }
         self.perform(Stmt::Load(n, width, word))?;
+        Ok(true)
+    }
+
+    /// Takes a load of a name that a register is set to at once, and that isn't seen after that: it is loaded into the
+    /// register. False where its word would nest too deep, or a delayed word reads the register.
+    pub fn take_load_into(
+        &mut self,
+        alloc: Global,
+        t: Name,
+        width: Width,
+        e: &Expr,
+        r: Name,
+    ) -> Result<bool, AllocError>
+        ensures { IfOk result (λ b. IsTrue b → TakesTwo (stmt.Load t width e.now) (stmt.Set r (roll-CExpr (CExpr-F.Name t))) t self.old.done self.old.delayed.items self.new.done self.new.delayed.items) }
+    {
+        let word = placed::word(alloc, &self.delayed, e)?;
+        if !fits::word_fits(&word, DEPTH) {
+            return Ok(false);
+        }
+        self.forget(t);
+        self.forget(r);
+        if !none_reads(&self.delayed, r) {
+            return Ok(false);
+        }
+        self.perform(Stmt::Load(r, width, word))?;
         Ok(true)
     }
 

@@ -5,11 +5,17 @@
 
 mod blocks;
 mod delayed;
+mod ends;
 mod fits;
 mod flows;
 mod folding;
+mod loads;
+mod order;
 mod placed;
 mod policy;
+mod said;
+mod seen;
 mod uses;
 
+pub use fits::{cond_fits, word_fits};
 pub use flows::fold;

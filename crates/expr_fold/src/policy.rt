@@ -1,14 +1,18 @@
 //! Which sets are delayed, and for how long. Each choice is right; these are the ones that leave few and short statements.
 
-ghost use Rattle.std.specs.Prelude.{◌<◌, length, IsTrue, OnOk, IfOk};
-ghost use Rattle.expr_fold.specs.Follows.{Waits, Takes};
+ghost use Rattle.std.specs.Prelude.{IsTrue, OnOk, IfOk};
+ghost use Rattle.expr_fold.specs.Follows.{Waits, Takes, TakesTwo};
+ghost use Rattle.c_syntax.specs.declared.syntax.CExpr.{CExpr-F, roll-CExpr};
+ghost use Rattle.micro_ir.specs.declared.flow.Stmt.TheVariants as stmt;
 
 use crate::delayed::Delayed;
 use crate::folding::Folding;
-use crate::uses;
-use dream_words::Name;
-use flow_passes::{is_flag, is_register, same_name, word_reads};
-use micro_ir::{Expr, Stmt};
+use crate::order::{has, is_spoilt, set_chosen};
+use crate::{ends, fits, placed, uses};
+use dream_words::{Name, Width};
+use flag_liveness::Live;
+use flow_passes::{cond_reads, is_flag, is_register, same_name, word_reads};
+use micro_ir::{End, Expr, Stmt};
 use std::alloc::{AllocError, Global};
 
 /// How many sets are delayed at most.
@@ -17,62 +21,11 @@ const MOST_DELAYED: usize = 20;
 /// How many parts a word has at most that stands in place.
 const LARGEST: u32 = 60;
 
+/// How deep a word nests at most that stands in place, so that what it stands in is no deeper than a flow allows.
+const DEEPEST: u32 = 40;
+
 /// How many parts a small word has at most.
 const SMALL: u32 = 2;
-
-/// Names among some.
-fn has(names: &[Name], n: Name) -> bool {
-    for m in names {
-        if same_name(*m, n) {
-            return true;
-        }
-    }
-    false
-}
-
-/// A word reads one of some names.
-fn reads_one(e: &Expr, names: &[Name]) -> bool {
-    for m in names {
-        if word_reads(e, *m) {
-            return true;
-        }
-    }
-    false
-}
-
-/// The names, and those whose delayed words read them, and so on. Later words read earlier names alone.
-fn with_readers(delayed: &[Delayed], chosen: Vec<Name>) -> Result<Vec<Name>, AllocError> {
-    let mut chosen = chosen;
-    for d in delayed {
-        if !has(&chosen, d.name) && reads_one(&d.word, &chosen) {
-            chosen.push(d.name)?;
-        }
-    }
-    Ok(chosen)
-}
-
-/// A delayed set is at a place, and its name among some.
-fn is_chosen(delayed: &[Delayed], at: usize, chosen: &[Name]) -> bool
-    ensures { IsTrue result → at < length delayed.now }
-{
-    match delayed.get(at) {
-        None => false,
-        Some(d) => has(chosen, d.name),
-    }
-}
-
-/// Does the delayed sets of some names, and of those that read them, the last first.
-fn set_chosen(folding: &mut Folding, chosen: Vec<Name>) -> Result<(), AllocError>
-    ensures { OnOk result (Waits folding.old.done folding.old.delayed.items folding.new.done folding.new.delayed.items) }
-{
-    let chosen = with_readers(&folding.delayed, chosen)?;
-    for at in (0..folding.delayed.len()).rev() {
-        if is_chosen(&folding.delayed, at, &chosen) {
-            folding.set_at(at)?;
-        }
-    }
-    Ok(())
-}
 
 /// The names whose delayed words read a name.
 fn readers(alloc: Global, delayed: &[Delayed], n: Name) -> Result<Vec<Name>, AllocError> {
@@ -83,6 +36,38 @@ fn readers(alloc: Global, delayed: &[Delayed], n: Name) -> Result<Vec<Name>, All
         }
     }
     Ok(names)
+}
+
+/// The names whose delayed words read a name and can't be said after a set of it.
+fn spoilt_readers(
+    alloc: Global,
+    delayed: &[Delayed],
+    n: Name,
+    e: &Expr,
+) -> Result<Vec<Name>, AllocError> {
+    let names = readers(alloc, delayed, n)?;
+    if names.is_empty() {
+        return Ok(names);
+    }
+    let word = placed::word(alloc, delayed, e)?;
+    let set = Delayed { name: n, word };
+    let mut spoilt = Vec::new(alloc);
+    for d in delayed {
+        if has(&names, d.name) && is_spoilt(alloc, &set, &d.word)? {
+            spoilt.push(d.name)?;
+        }
+    }
+    Ok(spoilt)
+}
+
+/// Another delayed word reads a name.
+fn is_read(delayed: &[Delayed], n: Name) -> bool {
+    for d in delayed {
+        if !same_name(d.name, n) && word_reads(&d.word, n) {
+            return true;
+        }
+    }
+    false
 }
 
 /// The delayed names that aren't flags.
@@ -96,31 +81,16 @@ fn unflagged(alloc: Global, delayed: &[Delayed]) -> Result<Vec<Name>, AllocError
     Ok(names)
 }
 
-/// The delayed registers.
-fn registers(alloc: Global, delayed: &[Delayed]) -> Result<Vec<Name>, AllocError> {
-    let mut names = Vec::new(alloc);
-    for d in delayed {
-        if is_register(d.name) {
-            names.push(d.name)?;
-        }
-    }
-    Ok(names)
-}
-
-/// All delayed names.
-fn all(alloc: Global, delayed: &[Delayed]) -> Result<Vec<Name>, AllocError> {
-    let mut names = Vec::new(alloc);
-    for d in delayed {
-        names.push(d.name)?;
-    }
-    Ok(names)
+/// A word is too large or too deep to stand in place.
+fn is_large(e: &Expr) -> bool {
+    uses::word_size(e) > LARGEST || !fits::word_fits(e, DEEPEST)
 }
 
 /// The delayed names with large words that a word reads.
 fn large_in(alloc: Global, delayed: &[Delayed], e: &Expr) -> Result<Vec<Name>, AllocError> {
     let mut names = Vec::new(alloc);
     for d in delayed {
-        if uses::word_size(&d.word) > LARGEST && word_reads(e, d.name) {
+        if is_large(&d.word) && word_reads(e, d.name) {
             names.push(d.name)?;
         }
     }
@@ -130,7 +100,7 @@ fn large_in(alloc: Global, delayed: &[Delayed], e: &Expr) -> Result<Vec<Name>, A
 /// The names to be set before a statement is taken.
 fn before(alloc: Global, delayed: &[Delayed], s: &Stmt) -> Result<Vec<Name>, AllocError> {
     match s {
-        Stmt::Set(n, _) => readers(alloc, delayed, *n),
+        Stmt::Set(n, e) => spoilt_readers(alloc, delayed, *n, e),
         Stmt::Load(n, _, _) => readers(alloc, delayed, *n),
         Stmt::Store(_, e, _) => large_in(alloc, delayed, e),
         Stmt::Ext(_) => unflagged(alloc, delayed),
@@ -140,11 +110,13 @@ fn before(alloc: Global, delayed: &[Delayed], s: &Stmt) -> Result<Vec<Name>, All
 
 /// A set of a name to a word is done at once, where the next statements are given.
 fn is_done_now(n: Name, word: &Expr, rest: &[Stmt]) -> bool {
-    let size = uses::word_size(word);
-    if size <= SMALL || is_flag(n) {
-        return size > LARGEST;
+    if is_large(word) {
+        return true;
     }
-    size > LARGEST || is_register(n) || uses::reads_ahead(rest, n) > 1
+    if uses::word_size(word) <= SMALL || is_flag(n) {
+        return false;
+    }
+    is_register(n) || uses::reads_ahead(rest, n) > 1
 }
 
 /// The names to be set after a statement was taken.
@@ -157,7 +129,7 @@ fn after(
     let mut names = Vec::new(alloc);
     if let Stmt::Set(n, _) = s
         && let Some(d) = delayed.last()
-        && is_done_now(*n, &d.word, rest)
+        && (is_read(delayed, *n) || is_done_now(*n, &d.word, rest))
     {
         names.push(*n)?;
     }
@@ -179,26 +151,69 @@ pub(crate) fn step(
     ensures { IfOk result (λ b. IsTrue b → Takes s.now folding.old.done folding.old.delayed.items folding.new.done folding.new.delayed.items) }
 {
     let first = before(alloc, &folding.delayed, s)?;
-    set_chosen(folding, first)?;
+    set_chosen(folding, alloc, first)?;
     if !folding.take(alloc, s)? {
         return Ok(false);
     }
     let last = after(alloc, &folding.delayed, s, rest)?;
-    set_chosen(folding, last)?;
+    set_chosen(folding, alloc, last)?;
     Ok(true)
 }
 
+/// Takes a load into the register that is set to its name next. False where that can't be.
+pub(crate) fn step_into(
+    folding: &mut Folding,
+    alloc: Global,
+    t: Name,
+    width: Width,
+    e: &Expr,
+    r: Name,
+) -> Result<bool, AllocError>
+    ensures { IfOk result (λ b. IsTrue b → TakesTwo (stmt.Load t width e.now) (stmt.Set r (roll-CExpr (CExpr-F.Name t))) t folding.old.done folding.old.delayed.items folding.new.done folding.new.delayed.items) }
+{
+    let first = readers(alloc, &folding.delayed, r)?;
+    set_chosen(folding, alloc, first)?;
+    let taken = folding.take_load_into(alloc, t, width, e, r)?;
+    Ok(taken)
+}
+
+/// An end reads a name.
+fn end_reads(e: &End, n: Name) -> bool {
+    match e {
+        End::Go(_) => false,
+        End::Branch(t, _, _) => cond_reads(t, n),
+        End::Switch(e, _) => word_reads(e, n),
+        End::Return => false,
+        End::Leave(e) => word_reads(e, n),
+    }
+}
+
+/// The names to be set before an end: those that may be seen after it, and those with large words that it reads.
+fn before_end(
+    alloc: Global,
+    live: &Live,
+    delayed: &[Delayed],
+    e: &End,
+) -> Result<Vec<Name>, AllocError> {
+    let mut names = Vec::new(alloc);
+    for d in delayed {
+        if ends::is_seen_after(live, e, d.name) || is_large(&d.word) && end_reads(e, d.name) {
+            names.push(d.name)?;
+        }
+    }
+    Ok(names)
+}
+
 /// Does what is delayed and may be seen after an end.
-pub(crate) fn close(folding: &mut Folding, alloc: Global, leaves: bool) -> Result<(), AllocError>
+pub(crate) fn close(
+    folding: &mut Folding,
+    alloc: Global,
+    live: &Live,
+    e: &End,
+) -> Result<(), AllocError>
     ensures { OnOk result (Waits folding.old.done folding.old.delayed.items folding.new.done folding.new.delayed.items) }
 {
-    if leaves {
-        let chosen = registers(alloc, &folding.delayed)?;
-        set_chosen(folding, chosen)?;
-        Ok(())
-    } else {
-        let chosen = all(alloc, &folding.delayed)?;
-        set_chosen(folding, chosen)?;
-        Ok(())
-    }
+    let chosen = before_end(alloc, live, &folding.delayed, e)?;
+    set_chosen(folding, alloc, chosen)?;
+    Ok(())
 }

@@ -27,12 +27,13 @@ use Rattle.guarded.specs.declared.tree.Tree.{Tree, Tree-F}
 use Rattle.guarded.specs.Run.{term_in, term_holds, word_to, tree_does}
 use Rattle.guarded.proofs.Layers.{does_layer}
 use Rattle.regions.proofs.Standing.{number_is}
+use Rattle.micro_ir.proofs.Values.{both_true}
 use Rattle.regions.proofs.Blocks.{num_in, pick_in}
 use Rattle.flow_plans.specs.declared.plan.Value.{Value}
 use Rattle.flow_plans.specs.Known.{is_added, is_test, are_tests}
 use Rattle.flow_plans.specs.Emitted.{gathered, number_of, has_value, or_any, any_of, two_ways, test_tree, sets, way_word, picked_word}
 use Rattle.flow_plans.proofs.Adding.{word_at}
-use Rattle.flow_plans.proofs.Holding.{and_true, is_any}
+use Rattle.flow_plans.proofs.Holding.{is_any}
 
 -- ---- one after another
 
@@ -105,7 +106,7 @@ or_any_is t [] w h = sym (or_none (term_in t w))
     or_none true = refl
     or_none false = refl
 or_any_is t (a ∷ rest) w h =
-    let p = and_true (is_test a.name) (are_tests rest) h in
+    let p = both_true (is_test a.name) (are_tests rest) h in
     or_any_is (roll-Term (Term-F.Or t (has_value a))) rest w p.1
     ∙ ap (λ b. b || is_any rest w) (truth_layer (Term-F.Or t (has_value a)) (λ v. w.names (B v)))
     ∙ ap (λ b. (term_in t w || b) || is_any rest w) (has_is a w p.0)
@@ -114,7 +115,7 @@ or_any_is t (a ∷ rest) w h =
 any_is : (c : List Value) (w : World) → are_tests c ≡ true → term_in (any_of c) w ≡ is_any c w
 any_is [] w h = truth_layer Term-F.False (λ v. w.names (B v))
 any_is (a ∷ rest) w h =
-    let p = and_true (is_test a.name) (are_tests rest) h in
+    let p = both_true (is_test a.name) (are_tests rest) h in
     or_any_is (has_value a) rest w p.1 ∙ ap (λ b. b || is_any rest w) (has_is a w p.0)
 
 -- a test of values as a test of worlds
@@ -146,7 +147,7 @@ one_test_is a first second false e h =
 
 pub test_is : (c : List Value) (first second : List Tree) → are_tests c ≡ true → tree_does (test_tree c first second) ≡ choose (any_holds c) (all_do first) (all_do second)
 test_is [] first second h = two_ways_is (any_of []) first second ∙ by_any [] (all_do first) (all_do second) h
-test_is (a ∷ []) first second h = one_test_is a first second (nat_eq a.value 0) refl (and_true (is_test a.name) true h).0
+test_is (a ∷ []) first second h = one_test_is a first second (nat_eq a.value 0) refl (both_true (is_test a.name) true h).0
 test_is (a ∷ b ∷ rest) first second h = two_ways_is (any_of (a ∷ b ∷ rest)) first second ∙ by_any (a ∷ b ∷ rest) (all_do first) (all_do second) h
 
 -- ---- variables that are set
@@ -168,7 +169,7 @@ way_word_is t a b w = at (nat_eq a 1 && nat_eq b 0) refl
   where
     at : (c : Bool) → (nat_eq a 1 && nat_eq b 0) ≡ c → word_to (if c then to.Cond t else to.Expr (built.pick t (built.num a) (built.num b))) w ≡ picked (holds t w) (Some a) (Some b)
     at true e =
-        let p = and_true (nat_eq a 1) (nat_eq b 0) e in
+        let p = both_true (nat_eq a 1) (nat_eq b 0) e in
         bits (holds t w) ∙ ap (λ x. picked (holds t w) (Some x) (Some 0)) (sym (number_is a 1 p.0)) ∙ ap (λ x. picked (holds t w) (Some a) (Some x)) (sym (number_is b 0 p.1))
     at false e =
         pick_in t (built.num a) (built.num b) w

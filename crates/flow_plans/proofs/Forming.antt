@@ -30,7 +30,8 @@ use Rattle.guarded.proofs.Layers.{term_uses_layer, uses_layer, numbers_term_laye
 use Rattle.regions.specs.Plain.{tree_end, block_tree}
 use Rattle.regions.proofs.Standing.{lt_true, le_true, lt_from, le_from}
 use Rattle.regions.proofs.Blocks.{block_rule}
-use Rattle.flow_plans.proofs.Blocks.{block_tree_allowed, block_named}
+use Rattle.regions.proofs.PlainFormed.{block_tree_allowed}
+use Rattle.regions.proofs.Named.{block_named}
 use Rattle.regions.proofs.FlowWords.{and_true, AllUses, uses_append, uses_to, IsFlowName, IsTextName, text_names, flow_text, numbers_layer, word_uses_layer, word_fit, word_named, cond_numbers, cond_deep, cond_named}
 use Rattle.flow_plans.specs.declared.plan.Value.{Value}
 use Rattle.flow_plans.specs.declared.plan.Way.{Way}

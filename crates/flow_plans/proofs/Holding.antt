@@ -11,34 +11,17 @@ use Rattle.flow_plans.specs.declared.plan.Entry.{Entry}
 use Rattle.flow_plans.specs.Known.{is_added, value_of, without, told, is_known, allows, allows_any, none_known, knows, common, entry_of, common_all, known_in, only, put_all, fade_all, picked_known, pick_all, owing, behind}
 use Rattle.flow_plans.specs.Checked.{all_are, same_truth, is_covered, all_covered, all_clear, all_heads}
 use Rattle.regions.proofs.Standing.{same_number, number_is}
+use Rattle.regions.proofs.FlowWords.{and_true}
+use Rattle.micro_ir.proofs.Values.{both_true}
+use Rattle.flow_passes.proofs.Names.{or_left, or_right, either_of}
 use Rattle.regions.proofs.Tracks.{Place}
 use Rattle.flow_plans.proofs.Adding.{word_at, name_is, set_here, set_other}
 
 -- ---- truths
 
-pub or_true : (a b : Bool) → (a || b) ≡ true → (a ≡ true) ⊎ (b ≡ true)
-or_true true b h = inl refl
-or_true false b h = inr h
-
-pub and_true : (a b : Bool) → (a && b) ≡ true → (a ≡ true) × (b ≡ true)
-and_true true b h = (refl, h)
-and_true false b h = absurd (let z : ⊥ = cc in z)
-
-or_left : (a b : Bool) → a ≡ true → (a || b) ≡ true
-or_left true b h = refl
-or_left false b h = absurd (let z : ⊥ = cc in z)
-
-or_right : (a b : Bool) → b ≡ true → (a || b) ≡ true
-or_right true b h = refl
-or_right false b h = h
-
 or_false : (a b : Bool) → (a || b) ≡ false → (a ≡ false) × (b ≡ false)
 or_false true b h = absurd (let z : ⊥ = cc in z)
 or_false false b h = (refl, h)
-
-and_both : (a b : Bool) → a ≡ true → b ≡ true → (a && b) ≡ true
-and_both true b h k = k
-and_both false b h k = absurd (let z : ⊥ = cc in z)
 
 if_then : (a b r : Bool) → (a ≡ true → b ≡ true) → r ≡ true → ((not a || b) && r) ≡ true
 if_then true b r h k = ap (λ b. b && r) (h refl) ∙ k
@@ -89,9 +72,9 @@ pub known_holds : (a : Value) (known : List Value) (s : World) → is_known a kn
 known_holds a [] s e h = absurd (let z : ⊥ = cc in z)
 known_holds a (b ∷ rest) s e h =
     ⊎_elim
-    (λ q. let w = and_true (same_name b.name a.name) (nat_eq b.value a.value) q in ap (λ v. word_at v s) (sym (name_is b.name a.name w.0)) ∙ h.0 ∙ number_is b.value a.value w.1)
+    (λ q. let w = both_true (same_name b.name a.name) (nat_eq b.value a.value) q in ap (λ v. word_at v s) (sym (name_is b.name a.name w.0)) ∙ h.0 ∙ number_is b.value a.value w.1)
     (λ q. known_holds a rest s q h.1)
-    (or_true (same_name b.name a.name && nat_eq b.value a.value) (is_known a rest) e)
+    (either_of (same_name b.name a.name && nat_eq b.value a.value) (is_known a rest) e)
 
 pub allows_holds : (a : Value) (known : List Value) (s : World) → word_at a.name s ≡ a.value → Hold known s → allows a known ≡ true
 allows_holds a [] s e h = refl
@@ -111,13 +94,13 @@ any_allowed (a ∷ rest) known s e h =
     ⊎_elim
     (λ q. or_left (allows a known) (allows_any rest known) (allows_holds a known s (number_is (word_at a.name s) a.value q) h))
     (λ q. or_right (allows a known) (allows_any rest known) (any_allowed rest known s q h))
-    (or_true (nat_eq (word_at a.name s) a.value) (is_any rest s) e)
+    (either_of (nat_eq (word_at a.name s) a.value) (is_any rest s) e)
 
 pub none_is_known : (c known : List Value) (s : World) → is_any c s ≡ false → Hold known s → none_known c known ≡ true
 none_is_known [] known s e h = refl
 none_is_known (a ∷ rest) known s e h =
     let w = or_false (nat_eq (word_at a.name s) a.value) (is_any rest s) e in
-    and_both (not (is_known a known)) (none_known rest known)
+    and_true (not (is_known a known)) (none_known rest known)
     (not_true (is_known a known) (λ q. let f = is_number (word_at a.name s) a.value (known_holds a known s q h) in let z : ⊥ = cc (w.0, f) in z))
     (none_is_known rest known s w.1 h)
 
@@ -132,7 +115,7 @@ common_right (a ∷ rest) other s h = hold_when (is_known a other) a (common res
 knows_hold : (known other : List Value) (s : World) → knows known other ≡ true → Hold other s → Hold known s
 knows_hold [] other s k h = tt
 knows_hold (a ∷ rest) other s k h =
-    let w = and_true (is_known a other) (knows rest other) k in
+    let w = both_true (is_known a other) (knows rest other) k in
     (known_holds a other s w.0 h, knows_hold rest other s w.1 h)
 
 pub picked_holds : (w : Way) (u : Value) (known : List Value) (s : World) → IsTrue (is_added w.name) → Hold known s
@@ -206,16 +189,16 @@ in_covering e [] d n s c h = absurd (let z : ⊥ = cc in z)
 in_covering e (f ∷ rest) d n s c h =
     ⊎_elim
     (λ q.
-    let a = and_true (same_truth e.owes f.owes) (nat_eq e.node f.node && knows f.known e.known) q in
-    let b = and_true (nat_eq e.node f.node) (knows f.known e.known) a.1 in
+    let a = both_true (same_truth e.owes f.owes) (nat_eq e.node f.node && knows f.known e.known) q in
+    let b = both_true (nat_eq e.node f.node) (knows f.known e.known) a.1 in
     inl (h.0 ∙ ap debt_of (truth_is e.owes f.owes a.0), h.1 ∙ number_is e.node f.node b.0, knows_hold f.known e.known s b.1 h.2))
     (λ q. inr (in_covering e rest d n s q h))
-    (or_true (same_truth e.owes f.owes && (nat_eq e.node f.node && knows f.known e.known)) (is_covered e rest) c)
+    (either_of (same_truth e.owes f.owes && (nat_eq e.node f.node && knows f.known e.known)) (is_covered e rest) c)
 
 pub in_covered : (es fs : List Entry) (d n : ℕ) (s : World) → all_covered es fs ≡ true → Among es d n s → Among fs d n s
 in_covered [] fs d n s c h = absurd h
 in_covered (e ∷ rest) fs d n s c h =
-    let p = and_true (is_covered e fs) (all_covered rest fs) c in
+    let p = both_true (is_covered e fs) (all_covered rest fs) c in
     ⊎_elim (λ r. in_covering e fs d n s p.0 r) (λ r. in_covered rest fs d n s p.1 r) h
 
 debt_fits : (owes head : Bool) (d : ℕ) → d ≡ debt_of owes → (not owes || head) ≡ true → d ≤ cond head 1 0
@@ -226,14 +209,14 @@ debt_fits false head d e h = omega (arith, e)
 pub are : (head : Bool) (k : ℕ) (es : List Entry) (d n : ℕ) (s : World) → all_are head k es ≡ true → Among es d n s → (n ≡ k) × (d ≤ cond head 1 0)
 are head k [] d n s a h = absurd h
 are head k (e ∷ rest) d n s a h =
-    let p = and_true (nat_eq e.node k) ((not e.owes || head) && all_are head k rest) a in
-    let q = and_true (not e.owes || head) (all_are head k rest) p.1 in
+    let p = both_true (nat_eq e.node k) ((not e.owes || head) && all_are head k rest) a in
+    let q = both_true (not e.owes || head) (all_are head k rest) p.1 in
     ⊎_elim (λ r. (r.1 ∙ number_is e.node k p.0, debt_fits e.owes head d r.0 q.0)) (λ r. are head k rest d n s q.1 r) h
 
 pub heads_are : (head : ℕ → Bool) (es : List Entry) (d n : ℕ) (s : World) → all_heads head es ≡ true → Among es d n s → head n ≡ true
 heads_are head [] d n s a h = absurd h
 heads_are head (e ∷ rest) d n s a h =
-    let p = and_true (head e.node) (all_heads head rest) a in
+    let p = both_true (head e.node) (all_heads head rest) a in
     ⊎_elim (λ r. ap head r.1 ∙ p.0) (λ r. heads_are head rest d n s p.1 r) h
 
 no_debt : (owes : Bool) (d : ℕ) → d ≡ debt_of owes → not owes ≡ true → d ≡ 0
@@ -243,7 +226,7 @@ no_debt false d e h = e
 pub are_clear : (es : List Entry) (d n : ℕ) (s : World) → all_clear es ≡ true → Among es d n s → d ≡ 0
 are_clear [] d n s a h = absurd h
 are_clear (e ∷ rest) d n s a h =
-    let p = and_true (not e.owes) (all_clear rest) a in
+    let p = both_true (not e.owes) (all_clear rest) a in
     ⊎_elim (λ r. no_debt e.owes d r.0 p.0) (λ r. are_clear rest d n s p.1 r) h
 
 pub in_fade : (v : Name) (es : List Entry) (d n : ℕ) (s : World) → Among es d n s → Among (fade_all v es) d n s

@@ -5,6 +5,5 @@ pub mod Induct
 pub mod Tracking
 pub mod Following
 pub mod Turning
-pub mod Blocks
 pub mod Forming
 pub mod Whole

@@ -39,7 +39,7 @@ use Rattle.flow_plans.specs.Known.{is_added, are_tests, told, allows_any, none_k
 use Rattle.flow_plans.specs.Checked.{case_ways, ways, all_are, all_covered, all_clear, all_heads, is_loop, Pass, where_true, then_pass, either_pass, block_pass, all_pass, loop_pass, pass_at, checked}
 use Rattle.flow_plans.specs.Emitted.{gathered, sets, way_word, way_trees, block_trees, joined, test_tree, picked_word, trees_at, trees_of}
 use Rattle.flow_plans.proofs.Adding.{word_at, set_bare, stmts_keep}
-use Rattle.flow_plans.proofs.Holding.{Hold, Among, and_true, hold_same, hold_told, is_any, any_allowed, none_is_known, in_behind, in_known, in_only, in_left, in_right, in_covered, are, heads_are, are_clear, in_fade, in_owing, in_put, in_pick}
+use Rattle.flow_plans.proofs.Holding.{Hold, Among, hold_same, hold_told, is_any, any_allowed, none_is_known, in_behind, in_known, in_only, in_left, in_right, in_covered, are, heads_are, are_clear, in_fade, in_owing, in_put, in_pick}
 use Rattle.flow_plans.proofs.Emitting.{all_do, one_does, gathered_is, both_do, any_holds, test_is, sets_is, sets_does, way_word_is, picked_word_is}
 use Rattle.flow_plans.proofs.Induct.{checked_layer, trees_layer, PlanCases, every_plan}
 
@@ -168,7 +168,7 @@ module _ (blocks : List Block) (head : ℕ → Bool) where
     block_along n w None at out es fs h = absurd (let z : ⊥ = cc in z)
     block_along n w (Some k) at out es fs h =
         let q = where_some (is_added w.name && all_are (head n) n es) (behind es (ways w (known_in es) k.end)) fs h in
-        let p = and_true (is_added w.name) (all_are (head n) n es) q.0 in
+        let p = both_true (is_added w.name) (all_are (head n) n es) q.0 in
         record {
           by = λ d n' s m i o.
               let r = are (head n) n es d n' s p.1 i in
@@ -198,7 +198,7 @@ module _ (blocks : List Block) (head : ℕ → Bool) where
     pick_along : (w : Way) (u : Value) → Along (λ out es. where_true (is_added w.name && is_added u.name) (pick_all w u es)) (sets w.name (picked_word u w.on_true w.on_false) ∷ [])
     pick_along w u out es fs h =
         let q = where_some (is_added w.name && is_added u.name) (pick_all w u es) fs h in
-        let p = and_true (is_added w.name) (is_added u.name) q.0 in
+        let p = both_true (is_added w.name) (is_added u.name) q.0 in
         set_along w.name (picked_word u w.on_true w.on_false) (λ s. if nat_eq (word_at u.name s) u.value then w.on_true else w.on_false) es fs (Among out) p.0 (λ s. picked_word_is u w.on_true w.on_false s p.1)
         (λ d n s i. subst (λ gs. Among gs d n (set_word w.name (if nat_eq (word_at u.name s) u.value then w.on_true else w.on_false) s)) q.1 (in_pick w u es d n s p.0 i))
 
@@ -248,9 +248,9 @@ module _ (blocks : List Block) (head : ℕ → Bool) where
     loop_along begins ends p ts hp out es fs h =
         let w = if_some (is_loop head begins ends es)
         (then_pass (p ends (owing begins)) (λ fs. where_true (all_covered fs begins) (behind es ends))) fs h in
-        let a = and_true (all_covered es begins) (all_heads head begins && (all_clear begins && all_clear ends)) w.0 in
-        let b = and_true (all_heads head begins) (all_clear begins && all_clear ends) a.1 in
-        let c = and_true (all_clear begins) (all_clear ends) b.1 in
+        let a = both_true (all_covered es begins) (all_heads head begins && (all_clear begins && all_clear ends)) w.0 in
+        let b = both_true (all_heads head begins) (all_clear begins && all_clear ends) a.1 in
+        let c = both_true (all_clear begins) (all_clear ends) b.1 in
         let r = then_some (p ends (owing begins)) (λ fs. where_true (all_covered fs begins) (behind es ends)) fs w.1 in
         let k = where_some (all_covered r.0 begins) (behind es ends) fs r.2 in
         let inv = λ (n : ℕ) (s : World). Among begins 0 n s in

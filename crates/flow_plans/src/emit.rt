@@ -3,7 +3,6 @@
 ghost use Rattle.std.specs.Prelude.{◌≡◌, ◌++◌, map, IfOk, OnOk, option_copied};
 ghost use Rattle.flow_plans.specs.Emitted.{gathered, sets, way_word, way_trees, block_trees, picked_word, joined, trees_of, emitted};
 
-use crate::copy;
 use crate::plan::{Plan, Value, Way};
 use crate::test_trees::{gathered, test_tree};
 use c_syntax::CCmp;
@@ -11,6 +10,7 @@ use c_words::{cmp, copy_cond, copy_word, name, num, pick};
 use dream_words::Name;
 use guarded::{SetTo, Tree};
 use micro_ir::{Block, Cond, End};
+use regions::tree_block;
 use sqlite_items::{Boxed, Items, at};
 use std::alloc::{AllocError, Global};
 
@@ -72,7 +72,7 @@ fn add_block(
     match found {
         None => Ok(()),
         Some(k) => {
-            trees.push(copy::block(alloc, k)?)?;
+            trees.push(tree_block(alloc, k)?)?;
             add_way(alloc, trees, way, &k.end)
         }
     }

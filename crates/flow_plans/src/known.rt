@@ -1,29 +1,13 @@
 //! What is known of variables.
 
 ghost use Rattle.std.specs.Prelude.{◌≡◌, IfOk};
-ghost use Rattle.flow_passes.specs.Uses.{same_name};
 ghost use Rattle.flow_plans.specs.Known.{is_added, is_test, are_tests, without, told, is_known, allows, allows_any, none_known, knows, common, picked_known};
 
 use crate::plan::{Value, Way};
 use dream_words::Name;
+use flow_passes::same_name;
 use sqlite_items::Items;
 use std::alloc::{AllocError, Global};
-
-/// Whether two names are one.
-fn same_name(a: Name, b: Name) -> bool
-    ensures { result ≡ same_name a b }
-{
-    match (a, b) {
-        (Name::Reg(m), Name::Reg(n)) => m == n,
-        (Name::Flag(m), Name::Flag(n)) => m == n,
-        (Name::Fs, Name::Fs) => true,
-        (Name::Gs, Name::Gs) => true,
-        (Name::T(m), Name::T(n)) => m == n,
-        (Name::B(m), Name::B(n)) => m == n,
-        (Name::S(m), Name::S(n)) => m == n,
-        _ => false,
-    }
-}
 
 /// Whether a tree may add the variable.
 pub(crate) fn is_added(n: Name) -> bool

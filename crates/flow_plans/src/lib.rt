@@ -4,7 +4,6 @@
 #![tactic(auto)]
 
 mod check;
-mod copy;
 mod emit;
 mod entries;
 mod fit;

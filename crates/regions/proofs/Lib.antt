@@ -8,9 +8,9 @@ pub mod Blocks
 mod PlainRuns
 mod LineRuns
 pub mod FlowWords
-mod PlainFormed
+pub mod PlainFormed
 mod Counted
-mod Named
+pub mod Named
 mod Lines
 mod LineFormed
 mod Whole

@@ -52,7 +52,7 @@ fn copy_end(alloc: Global, e: &End) -> Result<End, AllocError>
 }
 
 /// A block in a tree.
-pub(crate) fn block(alloc: Global, b: &Block) -> Result<Tree, AllocError>
+pub fn tree_block(alloc: Global, b: &Block) -> Result<Tree, AllocError>
     ensures { IfOk result (λ t. t ≡ block_tree b.now) }
 {
     let stmts = copy_stmts(alloc, b.stmts.as_slice())?;

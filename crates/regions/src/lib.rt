@@ -9,5 +9,6 @@ mod one_line;
 mod one_loop;
 mod trees;
 
+pub use copy::tree_block;
 pub use laws::{following_agrees, straight_is_exact};
 pub use trees::{plain, straight};

@@ -44,7 +44,7 @@ fn add_block(
     match blocks.get(n.0 as usize) {
         None => Ok(Way::Splits),
         Some(b) => {
-            trees.push(copy::block(alloc, b)?)?;
+            trees.push(copy::tree_block(alloc, b)?)?;
             Ok(way_of(&b.end))
         }
     }

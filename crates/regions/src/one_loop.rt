@@ -129,7 +129,7 @@ fn block_case(alloc: Global, n: u32, b: &Block) -> Result<TreeCase, AllocError>
     ensures { IfOk result (λ t. t ≡ block_case n b.now) }
 {
     let mut trees = Items::new(alloc);
-    trees.push(copy::block(alloc, b)?)?;
+    trees.push(copy::tree_block(alloc, b)?)?;
     add_next(alloc, &mut trees, &b.end)?;
     Ok(TreeCase {
         values: Items::from_vec(Vec::from_array(alloc, [n])?),

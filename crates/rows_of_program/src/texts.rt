@@ -84,14 +84,17 @@ fn prints_straight_lines(rt: HostRuntime) -> Result<(), Fail> {
     Ok(())
 }
 
-// Functions by their code, and what doesn't stand in their texts: flags that nothing reads.
+// Functions by their code, and what doesn't stand in their texts: flags that nothing reads, locals and sums that nobody needs.
 #[test]
-fn sets_no_dead_flags(rt: HostRuntime) -> Result<(), Fail> {
+fn leaves_out_what_nothing_reads(rt: HostRuntime) -> Result<(), Fail> {
     let alloc = rt.alloc();
-    let cases: [(&[u8], &str, &str); 4] = [
+    let cases: [(&[u8], &str, &str); 6] = [
         // A sum of registers.
         (&[0x89, 0xc8, 0x01, 0xd0, 0xc3], "0x08048100+5", "cf = "),
         (&[0x89, 0xc8, 0x01, 0xd0, 0xc3], "0x08048100+5", "zf = "),
+        (&[0x89, 0xc8, 0x01, 0xd0, 0xc3], "0x08048100+5", "uint32_t"),
+        // A sum with 0.
+        (&[0x83, 0xc0, 0x00, 0xc3], "0x08048100+4", "+ 0x0u"),
         // A branch on the sign of a word reads no parity, and a negation that nothing asks for sets nothing.
         (
             &[
@@ -119,6 +122,73 @@ fn sets_no_dead_flags(rt: HostRuntime) -> Result<(), Fail> {
 // How often a word stands in a text.
 fn count(text: &[u8], word: &str) -> Result<usize, Fail> {
     Ok(std::str::from_utf8(text)?.matches(word).count())
+}
+
+// An operation on al or eax and bl or ebx, a jump over the next instruction by a condition, and the two ways in which the text
+// may say the condition: as the branch does, or turned round.
+#[test]
+fn prints_comparisons(rt: HostRuntime) -> Result<(), Fail> {
+    let alloc = rt.alloc();
+    let cases: [([u8; 2], u8, &str, &str); 11] = [
+        ([0x39, 0xd8], 0x74, "(eax == ebx)", "(eax != ebx)"),
+        ([0x39, 0xd8], 0x72, "(eax < ebx)", "(ebx <= eax)"),
+        ([0x39, 0xd8], 0x76, "(eax <= ebx)", "(ebx < eax)"),
+        (
+            [0x39, 0xd8],
+            0x7c,
+            "(lts(eax, ebx) != 0x0u)",
+            "(lts(eax, ebx) == 0x0u)",
+        ),
+        (
+            [0x39, 0xd8],
+            0x7e,
+            "(lts(ebx, eax) == 0x0u)",
+            "(lts(ebx, eax) != 0x0u)",
+        ),
+        (
+            [0x39, 0xd8],
+            0x78,
+            "(lts((eax - ebx), 0x0u) != 0x0u)",
+            "(lts((eax - ebx), 0x0u) == 0x0u)",
+        ),
+        (
+            [0x38, 0xd8],
+            0x72,
+            "((eax & 0xffu) < (ebx & 0xffu))",
+            "((ebx & 0xffu) <= (eax & 0xffu))",
+        ),
+        (
+            [0x38, 0xd8],
+            0x7c,
+            "(lts(sx1(eax), sx1(ebx)) != 0x0u)",
+            "(lts(sx1(eax), sx1(ebx)) == 0x0u)",
+        ),
+        ([0x85, 0xc0], 0x74, "(eax == 0x0u)", "(eax != 0x0u)"),
+        (
+            [0x85, 0xc0],
+            0x7e,
+            "(lts(0x0u, eax) == 0x0u)",
+            "(lts(0x0u, eax) != 0x0u)",
+        ),
+        (
+            [0x85, 0xdb],
+            0x78,
+            "(lts(ebx, 0x0u) != 0x0u)",
+            "(lts(ebx, 0x0u) == 0x0u)",
+        ),
+    ];
+    for ([op, regs], jump, first, second) in cases {
+        let code = [op, regs, jump, 1, 0x40, 0xc3];
+        let ran = decompile(alloc, elf(alloc, &code)?, "0x08048100+6")?;
+        assert!(rt; ran.status == Status::Done, "{first}");
+        let text = ran.out.bytes();
+        let found = count(text, first)?.saturating_add(count(text, second)?);
+        assert_eq!(rt; found, 1, "{first}");
+        for flag in ["zf", "cf", "sf", "of"] {
+            assert_eq!(rt; count(text, flag)?, 0, "{flag} of {first}");
+        }
+    }
+    Ok(())
 }
 
 // Functions by their code: how many loops, selectors and tests their structured texts have. The plain text is one loop round one

@@ -4,11 +4,7 @@
 #![tactic(auto)]
 
 #[cfg(test)]
-mod forms;
-#[cfg(test)]
 mod guards;
-#[cfg(test)]
-mod parts;
 #[cfg(test)]
 mod printing;
 #[cfg(test)]

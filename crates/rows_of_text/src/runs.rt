@@ -1,20 +1,26 @@
-//! Runs of functions, and the functions of `dream386.h`.
+//! Runs of functions from their texts, with outcomes that are worked out by hand from the C.
 
-use crate::parts::{bin, reg};
+use c_read::read;
 use c_run::run_c;
-use c_syntax::*;
-use dream_words::{Answer, Bit, Flags, Memory, Name, Outcome, Pages, Regs, Start, Width};
+use c_syntax::{CFun, CStmt};
+use dream_words::{Answer, Bit, Flags, Memory, Outcome, Pages, Regs, Start, Width};
 use sqlite_items::Items;
 use std::alloc::{AllocError, Global};
 use std::test::Fail;
 
 const ESP: u32 = 0xbfff_0000;
 
-pub(crate) fn start(alloc: Global) -> Result<Start, AllocError> {
+// The head of a function, with locals. The statements and `}` follow.
+const HEAD: &str = r#"#include "dream386.h"
+void f_08048100(void) {
+uint32_t t0 = 0u; uint32_t t1 = 0u; uint32_t b0 = 0u; uint32_t b1 = 0u; uint32_t s0 = 0u; uint32_t s1 = 0u; "#;
+
+// eax is 7, ecx is given, the argument is 3, and the carry is set.
+fn start(alloc: Global, ecx: u32) -> Result<Start, AllocError> {
     let mut mem = Memory::new(alloc);
     mem.store(ESP + 4, Width::W, 3)?;
     Ok(Start {
-        regs: regs(7, ESP),
+        regs: regs(7, ecx),
         flags: flags(),
         fs: 0,
         gs: 0,
@@ -23,13 +29,13 @@ pub(crate) fn start(alloc: Global) -> Result<Start, AllocError> {
     })
 }
 
-fn regs(eax: u32, esp: u32) -> Regs {
+fn regs(eax: u32, ecx: u32) -> Regs {
     Regs {
         eax,
-        ecx: 0,
+        ecx,
         edx: 0,
         ebx: 0,
-        esp,
+        esp: ESP,
         ebp: 0,
         esi: 0,
         edi: 0,
@@ -46,18 +52,19 @@ fn flags() -> Flags {
     }
 }
 
-fn function(body: Vec<CStmt>) -> CFun {
-    CFun {
-        address: 0x0804_8100,
-        temps: 0,
-        bools: 0,
-        selectors: 0,
-        body: Items::from_vec(body),
+// The function of some statements.
+fn function(alloc: Global, stmts: &str) -> Result<CFun, Fail> {
+    let mut text = Vec::from_slice(alloc, HEAD.as_bytes())?;
+    text.extend_from_slice(stmts.as_bytes())?;
+    text.push(b'}')?;
+    match read(alloc, &text) {
+        Ok(f) => Ok(f),
+        Err(_) => Err(Fail::from("a text of the profile was refused")),
     }
 }
 
-/// The kind of an outcome; its register eax, its vector or the target of its last call; its calls.
-pub(crate) fn told(o: &Outcome) -> (&'static str, u32, usize) {
+// The kind of an outcome; its register eax, its vector or the target of its last call; its calls.
+fn told(o: &Outcome) -> (&'static str, u32, usize) {
     match o {
         Outcome::Returned { regs, calls, .. } => ("returned", regs.eax, calls.len()),
         Outcome::Faulted { vector, calls, .. } => ("faulted", *vector, calls.len()),
@@ -72,141 +79,206 @@ pub(crate) fn told(o: &Outcome) -> (&'static str, u32, usize) {
     }
 }
 
-/// `eax = 0; ecx = the argument; do { eax = eax + ecx; ecx = ecx - 1; } while (ecx != 0); return;`
-fn sum_up(alloc: Global) -> Result<CFun, AllocError> {
-    let mut body = Vec::new(alloc);
-    body.push(CStmt::Set(Name::Reg(0), CExpr::Num(0)))?;
-    body.push(load_argument(alloc)?)?;
-    body.push(rounds(alloc)?)?;
-    body.push(CStmt::Return)?;
-    Ok(function(body))
+// What the run of some statements tells.
+fn ending(
+    alloc: Global,
+    stmts: &str,
+    ecx: u32,
+    turns: u64,
+    answers: &[Answer],
+) -> Result<(&'static str, u32, usize), Fail> {
+    let f = function(alloc, stmts)?;
+    let start = start(alloc, ecx)?;
+    let outcome = run_c(alloc, &f, &start, answers, turns)?;
+    Ok(told(&outcome))
 }
 
-fn load_argument(alloc: Global) -> Result<CStmt, AllocError> {
-    let address = bin(alloc, CBin::Add, reg(4), CExpr::Num(4))?;
-    Ok(CStmt::Load(Name::Reg(1), Width::W, address))
-}
+const CHOICE: &str =
+    "if ((ecx == 0x1u)) { eax = 0xau; } else if ((ecx == 0x2u)) { eax = 0x14u; } else { eax = 0x1eu; }";
 
-fn rounds(alloc: Global) -> Result<CStmt, AllocError> {
-    let mut body = Vec::new(alloc);
-    body.push(change(alloc, 0, CBin::Add, reg(1))?)?;
-    body.push(change(alloc, 1, CBin::Sub, CExpr::Num(1))?)?;
-    let again = CCond::Cmp(CCmp::Ne, reg(1), CExpr::Num(0));
-    Ok(CStmt::DoWhile(Items::from_vec(body), again))
-}
+const LONE: &str = "if ((ecx == 0x1u)) { eax = 0xau; }";
 
-pub(crate) fn change(alloc: Global, n: u8, op: CBin, by: CExpr) -> Result<CStmt, AllocError> {
-    let changed = bin(alloc, op, reg(n), by)?;
-    Ok(CStmt::Set(Name::Reg(n), changed))
-}
+const CASES: &str =
+    "switch (ecx) { case 0x1u: case 0x2u: { eax = 0xau; } break; case 0x3u: { eax = 0x14u; break; eax = 0x1eu; } break; default: { eax = 0x28u; } break; }";
 
 #[test]
-fn a_loop_takes_its_turns(rt: HostRuntime) -> Result<(), Fail> {
-    let f = sum_up(rt.alloc())?;
-    for (turns, want) in [
-        (0, ("going", 0, 0)),
-        (2, ("going", 0, 0)),
-        (3, ("returned", 6, 0)),
-        (100, ("returned", 6, 0)),
-    ] {
-        let outcome = run_c(rt.alloc(), &f, &start(rt.alloc())?, &[], turns)?;
-        assert_eq!(rt; told(&outcome), want, "in {turns} turns");
+fn the_first_that_holds_is_taken(rt: HostRuntime) -> Result<(), Fail> {
+    let rows = [
+        (CHOICE, 1, 0, ("returned", 10, 0)),
+        (CHOICE, 2, 0, ("returned", 20, 0)),
+        (CHOICE, 3, 0, ("returned", 30, 0)),
+        (LONE, 1, 0, ("returned", 10, 0)),
+        (LONE, 2, 0, ("returned", 7, 0)),
+        (CASES, 1, 0, ("returned", 10, 0)),
+        (CASES, 2, 0, ("returned", 10, 0)),
+        (CASES, 3, 0, ("returned", 20, 0)),
+        (CASES, 4, 0, ("returned", 40, 0)),
+    ];
+    for (stmts, ecx, turns, want) in rows {
+        let got = ending(rt.alloc(), stmts, ecx, turns, &[])?;
+        assert_eq!(rt; got, want, "{stmts} of {ecx} in {turns} turns");
     }
     Ok(())
 }
 
-/// The outcome of a function of one statement, in no turns.
-fn ending(alloc: Global, statement: CStmt, answers: &[Answer]) -> (&'static str, u32, usize) {
-    match run_one(alloc, statement, answers) {
-        Ok(outcome) => told(&outcome),
-        Err(_) => ("no memory", 0, 0),
+const SUM: &str =
+    "eax = 0x0u; ecx = ld4((esp + 0x4u)); do { eax = (eax + ecx); ecx = (ecx - 0x1u); } while ((ecx != 0x0u)); return; eax = 0x9u;";
+
+const DOWN: &str = "while ((ecx != 0x0u)) { ecx = (ecx - 0x1u); eax = (eax + 0x2u); }";
+
+const UP: &str =
+    "while (1) { ecx = (ecx + 0x1u); if ((ecx == 0x3u)) { break; } eax = (eax + 0x2u); }";
+
+const LOOP_IN_SWITCH: &str =
+    "switch (ecx) { case 0x1u: { while (1) { eax = 0x5u; break; } eax = (eax + 0x1u); } break; default: { } break; }";
+
+const SWITCH_IN_LOOP: &str =
+    "while (1) { ecx = (ecx + 0x1u); switch (ecx) { case 0x1u: { break; } break; default: { return; } break; } eax = (eax + 0x2u); }";
+
+#[test]
+fn loops_take_their_turns(rt: HostRuntime) -> Result<(), Fail> {
+    let rows = [
+        (SUM, 0, 0, ("going", 0, 0)),
+        (SUM, 0, 2, ("going", 0, 0)),
+        (SUM, 0, 3, ("returned", 6, 0)),
+        (SUM, 0, 100, ("returned", 6, 0)),
+        (DOWN, 0, 0, ("returned", 7, 0)),
+        (DOWN, 3, 2, ("going", 0, 0)),
+        (DOWN, 3, 3, ("returned", 13, 0)),
+        (UP, 0, 2, ("going", 0, 0)),
+        (UP, 0, 3, ("returned", 11, 0)),
+        (LOOP_IN_SWITCH, 1, 0, ("going", 0, 0)),
+        (LOOP_IN_SWITCH, 1, 1, ("returned", 6, 0)),
+        (LOOP_IN_SWITCH, 2, 0, ("returned", 7, 0)),
+        (SWITCH_IN_LOOP, 0, 1, ("going", 0, 0)),
+        (SWITCH_IN_LOOP, 0, 2, ("returned", 9, 0)),
+    ];
+    for (stmts, ecx, turns, want) in rows {
+        let got = ending(rt.alloc(), stmts, ecx, turns, &[])?;
+        assert_eq!(rt; got, want, "{stmts} of {ecx} in {turns} turns");
     }
+    Ok(())
 }
 
-fn run_one(alloc: Global, statement: CStmt, answers: &[Answer]) -> Result<Outcome, AllocError> {
-    let mut body = Vec::new(alloc);
-    body.push(statement)?;
-    let start = start(alloc)?;
-    run_c(alloc, &function(body), &start, answers, 0)
+#[test]
+fn accesses_have_widths(rt: HostRuntime) -> Result<(), Fail> {
+    let rows = [
+        (
+            "st4(0x100u, 0x81828384u); st1(0x100u, 0xf1f2f3f4u); eax = ld4(0x100u);",
+            0x8182_83f4,
+        ),
+        (
+            "st4(0x100u, 0x81828384u); st2(0x100u, 0xf1f2f3f4u); eax = ld4(0x100u);",
+            0x8182_f3f4,
+        ),
+        ("st4(0x100u, 0xf1f2f3f4u); eax = ld1(0x100u);", 0xf4),
+        ("st4(0x100u, 0xf1f2f3f4u); eax = ld2(0x100u);", 0xf3f4),
+        (
+            "st4(0xfffffffeu, 0x81828384u); st2(0xfffffffeu, 0xf1f2f3f4u); eax = ld4(0xfffffffeu);",
+            0x8182_f3f4,
+        ),
+    ];
+    for (stmts, want) in rows {
+        let got = ending(rt.alloc(), stmts, 0, 0, &[])?;
+        assert_eq!(rt; got, ("returned", want, 0), "{stmts}");
+    }
+    Ok(())
 }
 
-fn answer(alloc: Global) -> Answer {
-    Answer {
-        regs: regs(9, ESP),
+const BOTH: &str = "if (((ecx == 0x1u) && ((ecx << 0x20u) == 0x0u))) { eax = 0xau; }";
+
+const EITHER: &str = "if (((ecx == 0x1u) || ((ecx << 0x20u) == 0x0u))) { eax = 0xau; }";
+
+const PICKED: &str = "eax = ((ecx == 0x1u) ? 0xau : (ecx << 0x20u));";
+
+#[test]
+fn what_is_not_needed_is_not_evaluated(rt: HostRuntime) -> Result<(), Fail> {
+    let rows = [
+        (BOTH, 0, 0, ("returned", 7, 0)),
+        (BOTH, 1, 0, ("stuck", 0, 0)),
+        (EITHER, 0, 0, ("stuck", 0, 0)),
+        (EITHER, 1, 0, ("returned", 10, 0)),
+        (PICKED, 0, 0, ("stuck", 0, 0)),
+        (PICKED, 1, 0, ("returned", 10, 0)),
+        ("eax = (eax << 0x1fu);", 0, 0, ("returned", 0x8000_0000, 0)),
+        ("eax = (eax << 0x20u);", 0, 0, ("stuck", 0, 0)),
+        ("trap(0xdu, cf);", 0, 0, ("faulted", 13, 0)),
+        ("trap(0xdu, pf);", 0, 0, ("returned", 7, 0)),
+        ("trap(0xdu, zf);", 0, 0, ("returned", 7, 0)),
+        ("ext(0x5u);", 0, 0, ("asking", 5, 1)),
+        ("t1 = 0x9u; eax = t1;", 0, 0, ("returned", 9, 0)),
+        ("b1 = 0x9u; eax = b0;", 0, 0, ("returned", 0, 0)),
+        ("s0 = 0x9u; eax = s1;", 0, 0, ("returned", 0, 0)),
+        ("of = 0x9u; eax = of;", 0, 0, ("returned", 9, 0)),
+    ];
+    for (stmts, ecx, turns, want) in rows {
+        let got = ending(rt.alloc(), stmts, ecx, turns, &[])?;
+        assert_eq!(rt; got, want, "{stmts} of {ecx} in {turns} turns");
+    }
+    Ok(())
+}
+
+/// Each operator, and each function of `dream386.h`, from its C.
+#[test]
+fn words_have_values(rt: HostRuntime) -> Result<(), Fail> {
+    let rows = [
+        ("(0xfffffffeu + 0x3u)", 1),
+        ("(0x1u - 0x2u)", 0xffff_ffff),
+        ("(0x10001u * 0x10001u)", 0x2_0001),
+        ("((0xcu & 0xau) + ((0xcu | 0xau) * 0x10u))", 0xe8),
+        ("(0xcu ^ 0xau)", 6),
+        ("(0x80000000u >> 0x1fu)", 1),
+        ("(~0xfu)", 0xffff_fff0),
+        ("sx1(0x1280u)", 0xffff_ff80),
+        ("sx2(0x17fffu)", 0x7fff),
+        ("((par(0x103u) * 0x2u) + par(0x101u))", 2),
+        ("((bsf(0x18u) * 0x100u) + bsf(0x0u))", 0x31f),
+        ("((bsr(0x18u) * 0x100u) + bsr(0x0u))", 0x400),
+        ("sar(0x80000000u, 0x4u)", 0xf800_0000),
+        ("sar(0x80000000u, 0x28u)", 0xffff_ffff),
+        (
+            "((lts(0xffffffffu, 0x0u) * 0x2u) + lts(0x0u, 0xffffffffu))",
+            2,
+        ),
+        ("mulhu(0xffffffffu, 0xffffffffu)", 0xffff_fffe),
+        ("mulhs(0xffffffffu, 0xffffffffu)", 0),
+        ("divubad(0xffffffffu, 0xfffffff9u, 0xffffffffu)", 1),
+        ("divuq(0xffffffffu, 0xfffffff9u, 0xffffffffu)", 0),
+        ("divsbad(0xffffffffu, 0xfffffff9u, 0x0u)", 1),
+        ("divsbad(0xffffffffu, 0xfffffff9u, 0x2u)", 0),
+        ("divsq(0xffffffffu, 0xfffffff9u, 0x2u)", 0xffff_fffd),
+        ("divsr(0xffffffffu, 0xfffffff9u, 0x2u)", 0xffff_ffff),
+        ("divuq(0x1u, 0x7u, 0x10u)", 0x1000_0000),
+        ("divur(0x1u, 0x7u, 0x10u)", 7),
+        ("((0x2u < 0x2u) ? 0x1u : 0x0u)", 0),
+        ("(((0x2u <= 0x2u) && (!(0x2u != 0x2u))) ? 0x1u : 0x0u)", 1),
+    ];
+    for (word, want) in rows {
+        let stmts = format!(in rt.alloc(); "eax = {word};")?;
+        let got = ending(rt.alloc(), &stmts, 0, 0, &[])?;
+        assert_eq!(rt; got, ("returned", want, 0), "{word}");
+    }
+    Ok(())
+}
+
+#[test]
+fn a_call_takes_its_answer(rt: HostRuntime) -> Result<(), Fail> {
+    let answer = Answer {
+        regs: regs(9, 0),
         flags: flags(),
-        mem: Memory::new(alloc),
-    }
-}
-
-#[test]
-fn a_call_takes_its_answer(rt: HostRuntime) {
-    let alloc = rt.alloc();
-    let answers = [answer(alloc)];
-    let ended = ending(alloc, CStmt::Ext(CExpr::Num(5)), &answers);
-    assert_eq!(rt; ended, ("returned", 9, 1));
-    let ended = ending(alloc, CStmt::Ext(CExpr::Num(5)), &[]);
-    assert_eq!(rt; ended, ("asking", 5, 1));
-}
-
-#[test]
-fn a_fault_comes_where_its_word_is_not_0(rt: HostRuntime) {
-    for (flag, want) in [
-        (0, ("faulted", 13, 0)),
-        (1, ("returned", 7, 0)),
-        (2, ("returned", 7, 0)),
-    ] {
-        let trap = CStmt::Trap(13, CExpr::Name(Name::Flag(flag)));
-        assert_eq!(rt; ending(rt.alloc(), trap, &[]), want, "of flag {flag}");
-    }
-}
-
-#[test]
-fn a_wide_shift_is_stuck(rt: HostRuntime) -> Result<(), Fail> {
-    for (count, want) in [(31, ("returned", 0x8000_0000, 0)), (32, ("stuck", 0, 0))] {
-        let shifted = bin(rt.alloc(), CBin::Shl, reg(0), CExpr::Num(count))?;
-        let set = CStmt::Set(Name::Reg(0), shifted);
-        assert_eq!(rt; ending(rt.alloc(), set, &[]), want, "by {count}");
-    }
+        mem: Memory::new(rt.alloc()),
+    };
+    let got = ending(rt.alloc(), "ext(0x5u);", 0, 0, &[answer])?;
+    assert_eq!(rt; got, ("returned", 9, 1));
     Ok(())
 }
 
-/// The functions of `dream386.h`, worked out from their C.
+/// No text has such a `break`.
 #[test]
-fn functions_of_words(rt: HostRuntime) {
-    for (f, a, want) in [
-        (CFn1::Sx1, 0x1280, 0xffff_ff80),
-        (CFn1::Sx2, 0x1_7fff, 0x7fff),
-        (CFn1::Par, 0x103, 1),
-        (CFn1::Par, 0x101, 0),
-        (CFn1::Bsf, 0x18, 3),
-        (CFn1::Bsf, 0, 31),
-        (CFn1::Bsr, 0x18, 4),
-        (CFn1::Bsr, 0, 0),
-    ] {
-        assert_eq!(rt; f.apply(a), want, "of {a}");
-    }
-    for (f, a, b, want) in [
-        (CFn2::Sar, 0x8000_0000, 4, 0xf800_0000),
-        (CFn2::Sar, 0x8000_0000, 40, 0xffff_ffff),
-        (CFn2::Lts, 0xffff_ffff, 0, 1),
-        (CFn2::Lts, 0, 0xffff_ffff, 0),
-        (CFn2::Mulhu, 0xffff_ffff, 0xffff_ffff, 0xffff_fffe),
-        (CFn2::Mulhs, 0xffff_ffff, 0xffff_ffff, 0),
-    ] {
-        assert_eq!(rt; f.apply(a, b), want, "of {a} and {b}");
-    }
-    for (f, d, want) in [
-        (CFn3::Divubad, 0xffff_ffff, 1),
-        (CFn3::Divuq, 0xffff_ffff, 0),
-        (CFn3::Divsbad, 0, 1),
-        (CFn3::Divsbad, 2, 0),
-        (CFn3::Divsq, 2, 0xffff_fffd),
-        (CFn3::Divsr, 2, 0xffff_ffff),
-    ] {
-        assert_eq!(rt; f.apply(0xffff_ffff, 0xffff_fff9, d), want, "of -7 and {d}");
-    }
-    assert_eq!(rt;
-        (CFn3::Divuq.apply(1, 7, 16), CFn3::Divur.apply(1, 7, 16)),
-        (0x1000_0000, 7)
-    );
+fn a_break_out_of_the_function_is_stuck(rt: HostRuntime) -> Result<(), Fail> {
+    let mut f = function(rt.alloc(), "return;")?;
+    f.body = Items::from_vec(Vec::from_array(rt.alloc(), [CStmt::Break])?);
+    let outcome = run_c(rt.alloc(), &f, &start(rt.alloc(), 0)?, &[], 0)?;
+    assert_eq!(rt; told(&outcome), ("stuck", 0, 0));
+    Ok(())
 }

@@ -17,5 +17,5 @@ pub returns-in_ok-push-in-Some-clause-tree : goal.returns-in_ok-push-in-Some-cla
 returns-in_ok-push-in-Some-clause-tree c =
     let here = found_at c.args.blocks.now c.n.inside.0 c.args.n c.in-Some.b.now c.n.view_is c.in-Some.ensures.lookup.3.0 c.in-Some.ensures.lookup.1 in
     (c.in_ok-push-in-Some.ensures {u = tt}).ok
-    ∙ ap (λ t. c.args.trees.now ++ t ∷ []) (c.in_ok-block-in-Some.ensures {u = tt})
+    ∙ ap (λ t. c.args.trees.now ++ t ∷ []) (c.in_ok-tree_block-in-Some.ensures {u = tt})
     ∙ ap (λ o. c.args.trees.now ++ trees_at o) (sym here)

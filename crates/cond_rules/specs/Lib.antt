@@ -1,0 +1,3 @@
+pub mod Negation
+pub mod Widths
+pub mod Forms

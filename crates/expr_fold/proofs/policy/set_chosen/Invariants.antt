@@ -1,5 +1,0 @@
-use Rattle.expr_fold.specs.Follows.{Waits}
-use Rattle.expr_fold.proofs.policy.set_chosen.Given as goal
-
-abbrev pub invariant-loop-at : goal.invariant-loop-at
-invariant-loop-at l = Waits l.fn.folding.done l.fn.folding.delayed.items l.folding.done l.folding.delayed.items

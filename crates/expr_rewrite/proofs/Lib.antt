@@ -1,0 +1,4 @@
+pub mod Pairing
+pub mod Standing
+pub mod Doing
+pub mod Keeping
