@@ -1,5 +1,5 @@
 -- What holds of the parts of a statement with conditions in place holds of the statement.
-use Rattle.std.proofs.Common.{map, ◌≡◌, ℕ, zero, suc, ◌+◌, max, Bool, true, false, ◌&&◌, List, [], ◌∷◌, ◌++◌, Option, Some, None, refl, sym, ap, ◌∙◌, subst, arith}
+use Rattle.std.proofs.Common.{map, ◌≡◌, ℕ, zero, suc, ◌+◌, max, Bool, true, false, List, [], ◌∷◌, ◌++◌, Option, Some, None, refl, sym, ap, ◌∙◌, subst, arith}
 use Rattle.dream_words.specs.declared.outcome.Outcome.{Outcome}
 use Rattle.run_parts.specs.Parts.{Past, Broke, Over, Stuck, Run, Ends, Goes, on, after, skip, seq, decide, first_arm, switch, always, round, turn, rounds, repeat}
 use Rattle.run_parts.specs.World.{World}

@@ -1,16 +1,15 @@
 -- What a function allows turns on its locals alone, and not on its body.
-use Rattle.std.proofs.Common.{◌≡◌, ℕ, Bool, true, ◌&&◌, nat_le, not, List, refl, sym, ap, ◌∙◌, map}
+use Rattle.std.proofs.Common.{◌≡◌, Bool, true, ◌&&◌, nat_le, not, List, refl, ap}
 use Rattle.std.proofs.Math.Path.{fun_ext}
 use Rattle.dream_words.specs.declared.machine.Name.{Name}
 use Rattle.dream_words.specs.declared.machine.Name.TheVariants as name
 use Rattle.c_syntax.specs.declared.syntax.CExpr.{CExpr, CExpr-F, fold-CExpr}
-use Rattle.c_syntax.specs.declared.syntax.CCond.{CCond, CCond-F, fold-CCond}
+use Rattle.c_syntax.specs.declared.syntax.CCond.{CCond, fold-CCond}
 use Rattle.c_syntax.specs.declared.syntax.CStmt.{CStmt, CStmt-F, fold-CStmt}
-use Rattle.c_syntax.specs.declared.syntax.CArm.{CArm, CArm-F}
-use Rattle.c_syntax.specs.declared.syntax.CGroup.{CGroup, CGroup-F}
+use Rattle.c_syntax.specs.declared.syntax.CArm.{CArm-F}
 use Rattle.c_syntax.specs.declared.syntax.CFun.{CFun}
 use Rattle.c_syntax.specs.Depth.{word_depth, cond_depth}
-use Rattle.c_syntax.specs.Formed.{is_declared, is_base, is_target, is_word, cond_names, word_names, names_word, names_cond, has_any, are_distinct, Allowed, all, else_allowed, GroupAllowed, groups_values, all_groups, word_allowed, cond_allowed, stmt_at, arm_at, group_at, stmt_allowed}
+use Rattle.c_syntax.specs.Formed.{is_declared, is_base, is_target, is_word, cond_names, word_names, names_word, names_cond, are_distinct, Allowed, all, GroupAllowed, groups_values, all_groups, word_allowed, cond_allowed, stmt_at, arm_at, group_at, stmt_allowed}
 use Rattle.c_conds.proofs.Bools.{ap2}
 
 -- a function with another body

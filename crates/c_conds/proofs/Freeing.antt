@@ -1,5 +1,5 @@
 -- A Word or Cond that doesn't read a local has its value after the local is set.
-use Rattle.std.proofs.Common.{◌≡◌, ℕ, nat_eq, Bool, true, false, not, ◌&&◌, if◌then◌else◌, Some, refl, sym, ap, ◌∙◌, rules, arith}
+use Rattle.std.proofs.Common.{◌≡◌, ℕ, nat_eq, Bool, true, false, not, if◌then◌else◌, Some, refl, sym, ap, ◌∙◌}
 use Rattle.dream_words.specs.declared.machine.Name.{Name}
 use Rattle.dream_words.specs.declared.machine.Name.TheVariants as name
 use Rattle.run_parts.specs.World.{Names, with_name}
@@ -9,7 +9,7 @@ use Rattle.c_syntax.specs.declared.syntax.CCond as c
 use Rattle.c_syntax.specs.declared.syntax.CCond.{CCond, CCond-F, roll-CCond}
 use Rattle.c_syntax.specs.Words.{bin_of, cmp_of, fn1_of, fn2_of, fn3_of}
 use Rattle.c_syntax.specs.Value.{each, both, all_three, picked, Word, Truth, word_of, truth_of, word_at, truth_at}
-use Rattle.c_syntax.proofs.Induct.{WordCases, every_word, every_cond}
+use Rattle.c_syntax.proofs.Induct.{WordCases, every_cond}
 use Rattle.c_syntax.proofs.Layers.{word_of_layer, truth_of_layer}
 use Rattle.c_conds.specs.Free as free
 use Rattle.c_conds.specs.Free.{is_other, free_word, free_cond}

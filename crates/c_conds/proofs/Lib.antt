@@ -1,8 +1,8 @@
-mod Bools
-mod Freeing
-mod Opposites
-mod Tests
-mod Lists
-mod Alike
-mod Formed
-mod Whole
+pub mod Bools
+pub mod Freeing
+pub mod Opposites
+pub mod Tests
+pub mod Lists
+pub mod Alike
+pub mod Formed
+pub mod Whole

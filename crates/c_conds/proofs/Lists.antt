@@ -1,5 +1,5 @@
 -- Statements one after another.
-use Rattle.std.proofs.Common.{map, ◌≡◌, ℕ, Bool, true, ◌&&◌, List, [], ◌∷◌, ◌++◌, refl, sym, ap, ◌∙◌}
+use Rattle.std.proofs.Common.{map, ◌≡◌, ℕ, Bool, true, List, [], ◌∷◌, ◌++◌, refl, ap, ◌∙◌}
 use Rattle.std.proofs.Math.Path.{fun_ext}
 use Rattle.dream_words.specs.declared.outcome.Outcome.{Outcome}
 use Rattle.run_parts.specs.Parts.{Ends, Goes, Past, Broke, Over, Stuck, Run, on, after, skip, seq}

@@ -10,7 +10,7 @@ use Rattle.c_syntax.specs.declared.syntax.CCond.{CCond, CCond-F, roll-CCond}
 use Rattle.c_syntax.specs.declared.syntax.CFun.{CFun}
 use Rattle.c_syntax.specs.Words.{cmp_of}
 use Rattle.c_syntax.specs.Value.{Truth, Word, each, both, truth_at, word_of, truth_of}
-use Rattle.c_syntax.specs.Formed.{names_word, names_cond}
+use Rattle.c_syntax.specs.Formed.{names_word}
 use Rattle.c_syntax.proofs.Layers.{truth_of_layer, names_cond_layer}
 use Rattle.c_words.specs.Built as built
 use Rattle.c_conds.specs.Placed.{IsOpposite}

@@ -1,11 +1,11 @@
 -- A condition in the place of the local that holds its outcome: in a Cond, and in a test after statements.
-use Rattle.std.proofs.Common.{map, ◌≡◌, ◌≤◌, ◌-◌, ℕ, suc, length, nat_eq, nat_le, Bool, true, false, not, ◌&&◌, if◌then◌else◌, List, [], ◌∷◌, ◌++◌, Option, Some, None, refl, sym, ap, ◌∙◌, subst, rules, arith, leb, le-leb}
+use Rattle.std.proofs.Common.{◌≡◌, ◌-◌, ℕ, suc, length, nat_eq, Bool, true, false, not, if◌then◌else◌, List, [], ◌∷◌, ◌++◌, Option, Some, None, refl, sym, ap, ◌∙◌, subst, rules, arith, le-leb}
 use Rattle.std.specs.Prelude.{Result, IfOk, IfSome, slice_get}
 use Rattle.dream_words.specs.declared.machine.Name.{Name}
 use Rattle.dream_words.specs.declared.machine.Name.TheVariants as name
 use Rattle.dream_words.specs.Words.{bit_of}
 use Rattle.dream_words.specs.declared.outcome.Outcome.{Outcome}
-use Rattle.run_parts.specs.Parts.{Exit, Past, Broke, Over, Stuck, Run, Ends, Goes, on, after}
+use Rattle.run_parts.specs.Parts.{Past, Broke, Over, Stuck, Run, Ends, Goes, on, after}
 use Rattle.run_parts.specs.Steps.{having, done}
 use Rattle.run_parts.specs.World.{Names, World, with_name}
 use Rattle.run_parts.specs.Effects.{set_word, setting}
@@ -13,14 +13,12 @@ use Rattle.c_syntax.specs.declared.syntax.CCmp.{CCmp}
 use Rattle.c_syntax.specs.declared.syntax.CCmp.TheVariants.{Eq, Ne}
 use Rattle.c_syntax.specs.declared.syntax.CExpr as e
 use Rattle.c_syntax.specs.declared.syntax.CExpr.{CExpr, CExpr-F, roll-CExpr}
-use Rattle.c_syntax.specs.declared.syntax.CCond.{CCond, CCond-F, roll-CCond}
+use Rattle.c_syntax.specs.declared.syntax.CCond.{CCond, CCond-F}
 use Rattle.c_syntax.specs.declared.syntax.CStmt.{CStmt, CStmt-F, roll-CStmt}
-use Rattle.c_syntax.specs.declared.syntax.CFun.{CFun}
 use Rattle.c_syntax.specs.Words.{cmp_of}
 use Rattle.c_syntax.specs.Value.{each, both, picked, Word, Truth, word_at, word_of, truth_of}
-use Rattle.c_syntax.specs.Depth.{cond_depth}
-use Rattle.c_syntax.specs.Formed.{is_target, all, names_cond, names_word, word_allowed, cond_allowed, stmt_allowed}
-use Rattle.c_syntax.specs.Run.{word_in, does_set, holds, run, run_all}
+use Rattle.c_syntax.specs.Formed.{is_target, names_cond}
+use Rattle.c_syntax.specs.Run.{word_in, holds, run_all}
 use Rattle.c_syntax.proofs.Layers.{word_of_layer, names_cond_layer, names_word_layer, run_layer, stmt_allowed_layer}
 use Rattle.c_words.specs.Built as built
 use Rattle.c_conds.specs.Free.{free_cond}

@@ -1,5 +1,5 @@
 -- A function whose body is like another's has its runs and counts, and is well formed where it is.
-use Rattle.std.proofs.Common.{map, ◌≡◌, ◌≤◌, ℕ, ◌+◌, max, Bool, true, false, ◌&&◌, List, [], ◌∷◌, refl, sym, ap, ◌∙◌, subst, arith}
+use Rattle.std.proofs.Common.{map, ◌≡◌, ℕ, ◌+◌, max, Bool, true, false, ◌&&◌, List, [], ◌∷◌, refl, sym, ap, ◌∙◌, subst, arith}
 use Rattle.run_parts.specs.World.{start_world, outcome_of}
 use Rattle.c_syntax.specs.declared.syntax.CStmt.{CStmt}
 use Rattle.c_syntax.specs.declared.syntax.CFun.{CFun}
@@ -8,7 +8,8 @@ use Rattle.c_syntax.specs.Formed.{Allowed, all, stmt_allowed, stmts_allowed, IsW
 use Rattle.c_syntax.specs.Run.{Part}
 use Rattle.guarded.specs.Counts.{Weights, total, c_stmt_count, c_count, each_loop, each_test, each_ext, each_store}
 use Rattle.c_conds.specs.Placed.{AreLike}
-use Rattle.c_conds.specs.Keeps.{HasTurns, KeepsCounts}
+use Rattle.c_locals.specs.Keeps.{KeepsCounts}
+use Rattle.c_conds.specs.Keeps.{HasTurns}
 use Rattle.c_conds.proofs.Formed.{with_body, stmts_same}
 
 all_is : (f : CFun) (ss : List CStmt) → all (map (stmt_allowed f) ss) false ≡ stmts_allowed f ss

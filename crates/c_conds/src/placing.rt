@@ -178,7 +178,7 @@ fn after(
 }
 
 /// A test after statements, with the condition of a local in the place of the local.
-pub(crate) fn test_after(
+pub fn test_after(
     alloc: Global,
     reads: &[u32],
     before: &[CStmt],

@@ -2,9 +2,6 @@ use Rattle.std.proofs.Common.{sym, subst, ◌∙◌}
 use Rattle.c_syntax.specs.declared.syntax.CCond.TheVariants as cond
 use Rattle.c_conds.specs.Placed.{IsOpposite}
 use Rattle.c_conds.proofs.Opposites.{opposite_not, opposite_if}
-use Rattle.c_conds.proofs.Tests.{set_after}
-use Rattle.c_conds.proofs.Alike.{like_snoc}
-use Rattle.c_conds.proofs.Whole.{promised}
 use Rattle.c_conds.proofs.opposite.opposite.Goals as goal
 
 pub returns-in-Cmp : goal.returns-in-Cmp

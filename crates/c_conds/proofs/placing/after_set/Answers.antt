@@ -1,8 +1,8 @@
-use Rattle.std.proofs.Common.{◌∙◌, sym, ap}
+use Rattle.std.proofs.Common.{◌∙◌, sym}
 use Rattle.c_syntax.specs.declared.syntax.CExpr.TheVariants as word
 use Rattle.c_words.specs.Built.{pick}
 use Rattle.c_conds.proofs.Bools.{ap3}
-use Rattle.c_conds.proofs.Tests.{set_if, after_last}
+use Rattle.c_conds.proofs.Tests.{set_if}
 use Rattle.c_conds.proofs.placing.after_set.Goals as goal
 
 pub returns-then-is_outcome : goal.returns-then-is_outcome
