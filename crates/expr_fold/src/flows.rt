@@ -5,8 +5,7 @@ ghost use Rattle.micro_ir.specs.Rule.{IsGiven};
 ghost use Rattle.flow_passes.specs.Keeps.{Keeps};
 
 use crate::blocks::blocks;
-use crate::seen::seen_flow;
-use flag_liveness::liveness;
+use flag_liveness::{clean_by, liveness};
 use micro_ir::Flow;
 use std::alloc::{AllocError, Global};
 
@@ -17,7 +16,7 @@ pub fn fold(alloc: Global, f: Flow) -> Result<Flow, AllocError>
     ensures keeps { IfOk result (λ g. Keeps f g) }
 {
     let live = liveness(alloc, &f)?;
-    let f = seen_flow(alloc, f, &live)?;
+    let f = clean_by(alloc, f, &live)?;
     match blocks(alloc, &live, f.blocks.as_slice())? {
         None => Ok(f),
         Some(folded) => Ok(Flow {

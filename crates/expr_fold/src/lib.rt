@@ -14,7 +14,6 @@ mod order;
 mod placed;
 mod policy;
 mod said;
-mod seen;
 mod uses;
 
 pub use fits::{cond_fits, word_fits};

@@ -31,7 +31,7 @@ pub fn clean(alloc: Global, f: Flow) -> Result<Flow, AllocError>
 }
 
 /// The flow without what nobody sees, by sets of live names.
-pub(crate) fn clean_by(alloc: Global, f: Flow, live: &Live) -> Result<Flow, AllocError>
+pub fn clean_by(alloc: Global, f: Flow, live: &Live) -> Result<Flow, AllocError>
     requires { KeepsRule f }
     ensures { IfOk result (λ r. r ≡ cleaned_flow (live_of live.now) f) }
 {

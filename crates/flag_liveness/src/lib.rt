@@ -13,7 +13,7 @@ mod row;
 mod seen;
 mod settle;
 
-pub use cleaning::clean;
+pub use cleaning::{clean, clean_by};
 pub use laws::cleaning_keeps;
 pub use live::Live;
 pub use settle::liveness;

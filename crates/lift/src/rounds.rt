@@ -1,9 +1,9 @@
 //! Repeated string instructions: the test of ECX before the round.
 
 ghost use Rattle.std.specs.Prelude.{◌≡◌, IfOk};
-ghost use Rattle.lift_strings.specs.Rounds.{has_rounds as has_rounds_of, with_test as with_test_of};
+ghost use Rattle.lift_bits_strings.specs.Rounds.{has_rounds as has_rounds_of, with_test as with_test_of};
 
-use lift_strings::ecx_test;
+use lift_bits_strings::ecx_test;
 use micro_ir::Block;
 use std::alloc::{AllocError, Global};
 use x86_inst::{Inst, Rep};

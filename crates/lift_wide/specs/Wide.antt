@@ -5,7 +5,7 @@ use Rattle.x86_inst.specs.declared.Inst.TheVariants as i
 use Rattle.x86_formed.specs.Formed.{HasSpelling}
 use Rattle.micro_ir.specs.declared.flow.Block.{Block}
 use Rattle.lift_parts.specs.Lifted.{AreBlocksOf}
-use Rattle.lift_strings.specs.Rounds.{with_test}
+use Rattle.lift_bits_strings.specs.Rounds.{with_test}
 
 abbrev pub is_wide : Inst → Bool
 is_wide (i.Mul size s) = true

@@ -5,7 +5,7 @@ use Rattle.x86_inst.specs.declared.Inst.TheVariants as i
 use Rattle.x86_formed.specs.Formed.{HasSpelling}
 use Rattle.micro_ir.specs.declared.flow.Block.{Block}
 use Rattle.lift_parts.specs.Lifted.{AreBlocksOf}
-use Rattle.lift_strings.specs.Rounds.{with_test}
+use Rattle.lift_bits_strings.specs.Rounds.{with_test}
 use Rattle.lift_wide.specs.Wide.{is_wide, IsWideBlock}
 use Rattle.lift_wide.proofs.lift_wide.Goals as goal
 use Rattle.std.specs.Prelude.{Some}

@@ -4,9 +4,9 @@ use Rattle.std.proofs.lemmas.Result.{IfOk-weaker}
 use Rattle.x86_inst.specs.declared.Inst.TheVariants as i
 use Rattle.x86_formed.specs.Formed.{HasSpelling}
 use Rattle.lift_parts.specs.Lifted.{AreBlocksOf}
-use Rattle.lift_strings.specs.Rounds.{round_block, with_test}
-use Rattle.lift_strings.proofs.StringBlocks.{string_blocks}
-use Rattle.lift_strings.proofs.strings.string.Goals as goal
+use Rattle.lift_bits_strings.specs.Rounds.{round_block, with_test}
+use Rattle.lift_bits_strings.proofs.StringBlocks.{string_blocks}
+use Rattle.lift_bits_strings.proofs.strings.string.Goals as goal
 
 pub returns : goal.returns
 returns c =

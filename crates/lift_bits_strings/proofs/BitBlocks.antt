@@ -26,9 +26,9 @@ use Rattle.lift_parts.proofs.Sureness.{both_true}
 use Rattle.lift_parts.proofs.FitWrites.{writes_fit}
 use Rattle.lift_blocks.specs.Ends.{goes_on}
 use Rattle.lift_blocks.proofs.OneBlock.{goes_blocks}
-use Rattle.lift_strings.specs.BitForms.{bit_stmts, bit_word, index_word, keeps_bit, old_bit, one_bit, place_word, scan_flag, scan_stmts}
-use Rattle.lift_strings.proofs.BitGoes.{bit_goes, scan_goes}
-use Rattle.lift_strings.proofs.Fitting.{after_fit}
+use Rattle.lift_bits_strings.specs.BitForms.{bit_stmts, bit_word, index_word, keeps_bit, old_bit, one_bit, place_word, scan_flag, scan_stmts}
+use Rattle.lift_bits_strings.proofs.BitGoes.{bit_goes, scan_goes}
+use Rattle.lift_bits_strings.proofs.Fitting.{after_fit}
 
 -- ---- tests of bits
 

@@ -37,8 +37,8 @@ use Rattle.lift_parts.proofs.Writes.{names_set, shows_flag, write_after, writes_
 use Rattle.lift_blocks.specs.Effects.{GoesOn, LeadsOn}
 use Rattle.lift_blocks.proofs.Common.{KeepsRest, by_step, leads_astray, leads_next, put_go, read_keeps, written_stands}
 use Rattle.lift_blocks.proofs.MoveWords.{num_value}
-use Rattle.lift_strings.specs.BitForms.{bit_stmts, bit_word, keeps_bit, old_bit, place_word, scan_flag, scan_stmts}
-use Rattle.lift_strings.proofs.BitValues.{bit_is, bit_stands, old_is}
+use Rattle.lift_bits_strings.specs.BitForms.{bit_stmts, bit_word, keeps_bit, old_bit, place_word, scan_flag, scan_stmts}
+use Rattle.lift_bits_strings.proofs.BitValues.{bit_is, bit_stands, old_is}
 
 -- ---- a flag is set, and then an operand is written
 

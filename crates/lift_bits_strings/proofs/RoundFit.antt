@@ -25,9 +25,9 @@ use Rattle.lift_parts.proofs.Fit.{AreFit, IsFit, bin_fit, both_hold, fit_word, n
 use Rattle.lift_parts.proofs.FitShapes.{IsFitCond, cmp_fit}
 use Rattle.lift_parts.proofs.FitWrites.{set_fit, set_part_fit, store_fit}
 use Rattle.lift_alu.specs.Words.{flag_clear, flag_set}
-use Rattle.lift_strings.specs.Rounds.{body_stmts, counts_down, raises, source_word, step_stmts, where_so}
-use Rattle.lift_strings.proofs.Comparing.{compared_fit}
-use Rattle.lift_strings.proofs.Fitting.{after_fit, before_fit, then_fit}
+use Rattle.lift_bits_strings.specs.Rounds.{body_stmts, counts_down, raises, source_word, step_stmts, where_so}
+use Rattle.lift_bits_strings.proofs.Comparing.{compared_fit}
+use Rattle.lift_bits_strings.proofs.Fitting.{after_fit, before_fit, then_fit}
 
 source_fit : (s : Seg) → IsFit 2 (source_word s)
 source_fit seg.None = reg_fit 2 6 (lit≤ tt) (lit< tt)

@@ -5,9 +5,9 @@ use Rattle.x86_inst.specs.declared.Inst.TheVariants as i
 use Rattle.x86_formed.specs.Formed.{HasSpelling}
 use Rattle.lift_parts.specs.Lifted.{AreBlocksOf}
 use Rattle.lift_blocks.specs.Ends.{goes_on}
-use Rattle.lift_strings.specs.BitForms.{bit_stmts}
-use Rattle.lift_strings.proofs.BitBlocks.{bit_blocks}
-use Rattle.lift_strings.proofs.bits.bit.Goals as goal
+use Rattle.lift_bits_strings.specs.BitForms.{bit_stmts}
+use Rattle.lift_bits_strings.proofs.BitBlocks.{bit_blocks}
+use Rattle.lift_bits_strings.proofs.bits.bit.Goals as goal
 
 pub returns : goal.returns
 returns c =

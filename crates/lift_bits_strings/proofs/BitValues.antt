@@ -23,7 +23,7 @@ use Rattle.lift_parts.specs.Shown.{AreNames, Shows, ShowsRead}
 use Rattle.lift_parts.specs.Stands.{StandsFor}
 use Rattle.lift_parts.proofs.Values.{raw_is, value_fits, value_is, word_fits}
 use Rattle.lift_blocks.proofs.MoveWords.{bin_value, not_value, num_value}
-use Rattle.lift_strings.specs.BitForms.{bit_word, index_word, old_bit, one_bit}
+use Rattle.lift_bits_strings.specs.BitForms.{bit_word, index_word, old_bit, one_bit}
 
 -- ---- numbers
 

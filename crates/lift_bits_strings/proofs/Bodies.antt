@@ -37,9 +37,9 @@ use Rattle.lift_parts.proofs.Kept.{flags_stay, flags_temp}
 use Rattle.lift_parts.proofs.Values.{load_fits, load_low, low_again, word_fits}
 use Rattle.lift_parts.proofs.Writes.{names_set, part_runs, store_low}
 use Rattle.lift_blocks.proofs.MoveWords.{bin_value, name_value}
-use Rattle.lift_strings.specs.Rounds.{body_stmts, source_word}
-use Rattle.lift_strings.proofs.Comparing.{Compared, compared}
-use Rattle.lift_strings.proofs.Reaching.{Reaches}
+use Rattle.lift_bits_strings.specs.Rounds.{body_stmts, source_word}
+use Rattle.lift_bits_strings.proofs.Comparing.{Compared, compared}
+use Rattle.lift_bits_strings.proofs.Reaching.{Reaches}
 
 -- what a round begins with in a world
 abbrev pub round_step : StrOp → Size → Seg → ℕ → World → Flags → Step

@@ -8,7 +8,7 @@ ghost use Rattle.lift_blocks.specs.Flags.{sets_flags};
 ghost use Rattle.lift_parts.specs.Lifted.{AreBlocksOf};
 ghost use Rattle.lift_parts.specs.Parts.{reg as reg_of};
 ghost use Rattle.micro_ir.specs.declared.flow.Stmt.TheVariants as stmt;
-ghost use Rattle.lift_strings.specs.Rounds.{source_word as source_word_of, body_stmts, where_so, raises, counts_down, step_stmts, round_end as round_end_of, round_block as round_block_of, test_block, with_test};
+ghost use Rattle.lift_bits_strings.specs.Rounds.{source_word as source_word_of, body_stmts, where_so, raises, counts_down, step_stmts, round_end as round_end_of, round_block as round_block_of, test_block, with_test};
 ghost use Rattle.x86_formed.specs.Formed.{HasSpelling};
 ghost use Rattle.x86_inst.specs.declared.AluOp.TheVariants as alu;
 ghost use Rattle.x86_inst.specs.declared.StrOp.TheVariants as op;

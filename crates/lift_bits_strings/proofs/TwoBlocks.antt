@@ -21,7 +21,7 @@ use Rattle.lift_parts.specs.Stands.{FlagsStand, state_in}
 use Rattle.lift_parts.proofs.Fit.{AreFit, both_hold, none_fit, num_fit, reg_fit}
 use Rattle.lift_parts.proofs.FitShapes.{IsFitCond, cmp_fit, fit_cond, fit_stays}
 use Rattle.lift_blocks.proofs.Does.{cmp_is, name_is, num_is}
-use Rattle.lift_strings.specs.Rounds.{some_left, test_block}
+use Rattle.lift_bits_strings.specs.Rounds.{some_left, test_block}
 
 -- ---- the test
 

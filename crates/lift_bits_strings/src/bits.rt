@@ -3,7 +3,7 @@
 ghost use Rattle.std.specs.Prelude.{◌≡◌, ℕ, ◌-◌, ◌^◌, ◌<◌, [], ◌∷◌, ◌++◌, IfOk, OnOk};
 ghost use Rattle.lift_blocks.specs.Ends.{goes_on as goes_on_of};
 ghost use Rattle.lift_parts.specs.Lifted.{AreBlocksOf};
-ghost use Rattle.lift_strings.specs.BitForms.{index_word as index_word_of, one_bit as one_bit_of, old_bit as old_bit_of, bit_word as bit_word_of, keeps_bit, bit_stmts, place_word as place_word_of, scan_flag, scan_stmts};
+ghost use Rattle.lift_bits_strings.specs.BitForms.{index_word as index_word_of, one_bit as one_bit_of, old_bit as old_bit_of, bit_word as bit_word_of, keeps_bit, bit_stmts, place_word as place_word_of, scan_flag, scan_stmts};
 ghost use Rattle.x86_formed.specs.Formed.{HasSpelling};
 ghost use Rattle.x86_model.specs.Operands.{bits_of};
 ghost use Rattle.x86_model.specs.Successors.{writes_bit};

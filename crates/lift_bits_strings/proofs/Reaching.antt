@@ -27,7 +27,7 @@ use Rattle.lift_parts.proofs.Kept.{flags_reg}
 use Rattle.lift_parts.proofs.Writes.{names_set}
 use Rattle.lift_blocks.proofs.Does.{minus_is}
 use Rattle.lift_blocks.proofs.MoveWords.{bin_value, name_value, num_value}
-use Rattle.lift_strings.specs.Rounds.{counts_down, raises, where_so}
+use Rattle.lift_bits_strings.specs.Rounds.{counts_down, raises, where_so}
 
 -- From the world w a world is reached that stands for the state after an effect.
 pub record Reaches (e : Effect) (w u : World) : Type 0 where

@@ -42,12 +42,12 @@ use Rattle.lift_blocks.specs.Effects.{GoesOn}
 use Rattle.lift_blocks.proofs.Common.{leads_next}
 use Rattle.lift_blocks.proofs.Does.{cmp_is, name_is, num_is, stands_here}
 use Rattle.lift_blocks.proofs.OneBlock.{goes_blocks}
-use Rattle.lift_strings.specs.Rounds.{body_stmts, counts_down, raises, round_block, round_end, step_stmts, test_block, where_so, with_test}
-use Rattle.lift_strings.proofs.Bodies.{body_reaches, refused_reads, round_step}
-use Rattle.lift_strings.proofs.RoundFit.{clear_cond_fit, round_fit, set_cond_fit}
-use Rattle.lift_strings.proofs.Reaching.{Reaches, counts, reached_stands, source_steps, target_steps}
-use Rattle.lift_strings.proofs.Repeating.{may_repeat, spelled_may_repeat}
-use Rattle.lift_strings.proofs.TwoBlocks.{two_blocks}
+use Rattle.lift_bits_strings.specs.Rounds.{body_stmts, counts_down, raises, round_block, round_end, step_stmts, test_block, where_so, with_test}
+use Rattle.lift_bits_strings.proofs.Bodies.{body_reaches, refused_reads, round_step}
+use Rattle.lift_bits_strings.proofs.RoundFit.{clear_cond_fit, round_fit, set_cond_fit}
+use Rattle.lift_bits_strings.proofs.Reaching.{Reaches, counts, reached_stands, source_steps, target_steps}
+use Rattle.lift_bits_strings.proofs.Repeating.{may_repeat, spelled_may_repeat}
+use Rattle.lift_bits_strings.proofs.TwoBlocks.{two_blocks}
 
 -- ---- a whole round
 
