@@ -1,5 +1,5 @@
 -- Rows that are closed, and temporaries, make sets of live names that are closed.
-use Rattle.std.proofs.Common.{◌≡◌, ◌⊎◌, inl, inr, ℕ, nat_lt, ◌^◌, Bool, true, false, cond, not, ◌&&◌, ◌||◌, List, [], ◌∷◌, Some, refl, sym, ap, subst, ◌∙◌}
+use Rattle.std.proofs.Common.{◌≡◌, ◌⊎◌, inl, inr, ℕ, nat_lt, Bool, true, false, cond, not, ◌&&◌, ◌||◌, List, [], ◌∷◌, Some, refl, sym, ap, ◌∙◌}
 use Rattle.std.proofs.lemmas.Bool.{false≢true}
 use Rattle.std.specs.Prelude.{IsTrue, slice_get}
 use Rattle.std.specs.List.{list_any}
@@ -20,7 +20,7 @@ use Rattle.flow_passes.proofs.Reading.{word_reads_layer}
 use Rattle.flag_liveness.specs.declared.live.Live.{Live}
 use Rattle.flag_liveness.specs.declared.seen.Seen.{Seen}
 use Rattle.flag_liveness.specs.Before.{is_itself, is_unseen, live_before_all, live_at, live_in, AreLive}
-use Rattle.flag_liveness.specs.Across.{read_first, block_reads, Crosses}
+use Rattle.flag_liveness.specs.Across.{read_first, Crosses}
 use Rattle.flag_liveness.specs.Within.{names_within, Agree}
 use Rattle.flag_liveness.specs.Lives.{held_in, live_of, across_of}
 use Rattle.flag_liveness.specs.Settled.{AreClosed}

@@ -1,5 +1,5 @@
 -- Rows that grow.
-use Rattle.std.proofs.Common.{◌≡◌, ◌⊎◌, inl, inr, ℕ, suc, ◌+◌, ◌<◌, ◌≤◌, zero, nat_lt, Bool, true, false, cond, not, ◌&&◌, ◌||◌, List, [], ◌∷◌, Option, length, get_or, set, Some, refl, sym, ap, subst, ◌∙◌, arith}
+use Rattle.std.proofs.Common.{◌≡◌, inl, inr, ℕ, suc, ◌+◌, ◌<◌, ◌≤◌, zero, nat_lt, Bool, true, false, not, ◌&&◌, ◌||◌, List, [], ◌∷◌, Option, length, get_or, set, Some, refl, sym, ap, subst, ◌∙◌, arith}
 use Rattle.std.proofs.lemmas.Bool.{false≢true, cases_eq}
 use Rattle.std.proofs.lemmas.List.Sums.{sum_by-set}
 use Rattle.std.proofs.lemmas.Option.{slice_get_read}
@@ -19,7 +19,7 @@ use Rattle.flag_liveness.specs.declared.live.Live.{Live}
 use Rattle.flag_liveness.specs.Before.{live_in}
 use Rattle.flag_liveness.specs.Rows.{row_names, is_in_rows, unset, SameRow}
 use Rattle.flag_liveness.specs.Within.{row_or_temps, names_within, Agree}
-use Rattle.flag_liveness.specs.Lives.{row_in, across_of, held_in, live_of}
+use Rattle.flag_liveness.specs.Lives.{row_in, across_of, live_of}
 use Rattle.flag_liveness.specs.Settled.{unset_in, IsClosedAt, AreClosed}
 use Rattle.flag_liveness.specs.Reasons.{HaveReasons}
 use Rattle.flag_liveness.proofs.Kept.{block_rule}

@@ -1,5 +1,5 @@
 -- Flags are live since they are read.
-use Rattle.std.proofs.Common.{◌≡◌, ◌⊎◌, inl, inr, ℕ, zero, suc, ◌<◌, ◌≤◌, nat_lt, Bool, true, false, not, ◌&&◌, ◌||◌, List, [], ◌∷◌, Option, None, Some, length, get_or, set, drop, map, refl, sym, ap, subst, ◌∙◌, arith}
+use Rattle.std.proofs.Common.{◌≡◌, inl, inr, ℕ, zero, suc, ◌<◌, ◌≤◌, nat_lt, Bool, true, false, not, ◌||◌, List, [], ◌∷◌, Option, Some, length, get_or, set, drop, map, refl, sym, ap, subst, ◌∙◌, arith}
 use Rattle.std.proofs.lemmas.Bool.{false≢true, cases_eq}
 use Rattle.std.proofs.lemmas.Option.{slice_get-get_or, slice_get-map, slice_get_within, slice_get_cases}
 use Rattle.std.specs.Prelude.{IsTrue, Contains, slice_get}
@@ -18,7 +18,7 @@ use Rattle.micro_ir.specs.Rule.{IsGiven, is_flow_target, is_flow_word, is_flow_s
 use Rattle.micro_ir.proofs.Values.{both_true}
 use Rattle.flow_passes.specs.Uses.{NameSet}
 use Rattle.flow_passes.specs.Laws.{Within}
-use Rattle.flow_passes.proofs.Names.{or_left, or_right, either_of}
+use Rattle.flow_passes.proofs.Names.{or_left, either_of}
 use Rattle.flag_liveness.specs.declared.row.Row.{Row}
 use Rattle.flag_liveness.specs.declared.live.Live.{Live}
 use Rattle.flag_liveness.specs.declared.seen.Seen.{Seen}
