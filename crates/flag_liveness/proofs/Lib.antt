@@ -11,5 +11,6 @@ pub mod Going
 pub mod Closing
 pub mod ReadOn
 pub mod Reasons
+pub mod Spreading
 pub mod Growing
 pub mod Crossing

@@ -6,12 +6,14 @@
 mod across;
 mod before;
 mod cleaning;
+mod comers;
 mod laws;
 mod live;
 mod names;
 mod row;
 mod seen;
 mod settle;
+mod spread;
 
 pub use cleaning::{clean, clean_by};
 pub use laws::cleaning_keeps;

@@ -16,6 +16,7 @@ use crate::across::across;
 use crate::live::Live;
 use crate::row::Row;
 use crate::seen::Seen;
+use crate::spread::spread;
 use micro_ir::{Block, Flow};
 use std::alloc::{AllocError, Global};
 
@@ -51,7 +52,7 @@ fn no_rows(alloc: Global, count: usize) -> Result<Vec<Row>, AllocError>
     Ok(rows)
 }
 
-/// Adds what is live until no row grows.
+/// Adds what is live until no row grows: first where a row may grow still, and then at all blocks.
 fn settle(alloc: Global, blocks: &[Block], live: &mut Live) -> Result<(), AllocError>
     requires size { length live.old.rows.items ≡ length blocks.now }
     requires rule { IsTrue (are_flow_blocks blocks.now) }
@@ -61,6 +62,7 @@ fn settle(alloc: Global, blocks: &[Block], live: &mut Live) -> Result<(), AllocE
     ensures closed { OnOk result (AreClosed blocks.now live.new) }
     ensures reasons { OnOk result (HaveReasons blocks.now (live_of live.new)) }
 {
+    spread(alloc, blocks, live)?;
     'rounds: while grow_all(alloc, blocks, live)? {}
     Ok(())
 }
@@ -89,7 +91,7 @@ fn grow_all(alloc: Global, blocks: &[Block], live: &mut Live) -> Result<bool, Al
 
 impl Live {
     /// Adds to the row of a block what is live at its beginning. The answer is whether the row grew.
-    fn grow(&mut self, alloc: Global, b: &Block, k: usize) -> Result<bool, AllocError>
+    pub(crate) fn grow(&mut self, alloc: Global, b: &Block, k: usize) -> Result<bool, AllocError>
         requires inside { k < length self.old.rows.items }
         requires rule { IsTrue (are_flow_stmts b.now.stmts) }
         ensures temps { self.new.temps ≡ self.old.temps }
