@@ -72,6 +72,16 @@ fn block(alloc: Global, i: Inst, at: u32, next: u32) -> Result<Block, AllocError
         Inst::CallTo(s) => control::call_to(alloc, at, next, s),
         Inst::Ret(n) => control::ret(alloc, at, n),
         Inst::Trap(v) => control::trap(alloc, at, v),
-        _ => Ok(nothing(alloc, at)),
+        Inst::Mul(_, _) => Ok(nothing(alloc, at)),
+        Inst::ImulWide(_, _) => Ok(nothing(alloc, at)),
+        Inst::Imul2(_, _, _) => Ok(nothing(alloc, at)),
+        Inst::Imul3(_, _, _, _) => Ok(nothing(alloc, at)),
+        Inst::Div(_, _) => Ok(nothing(alloc, at)),
+        Inst::Idiv(_, _) => Ok(nothing(alloc, at)),
+        Inst::Shift(_, _, _, _) => Ok(nothing(alloc, at)),
+        Inst::DShift(_, _, _, _) => Ok(nothing(alloc, at)),
+        Inst::Bit(_, _, _, _) => Ok(nothing(alloc, at)),
+        Inst::Scan(_, _, _, _, _) => Ok(nothing(alloc, at)),
+        Inst::Str(_, _, _, _) => Ok(nothing(alloc, at)),
     }
 }
