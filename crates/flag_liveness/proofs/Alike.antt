@@ -1,5 +1,5 @@
 -- What somebody sees does alike.
-use Rattle.std.proofs.Common.{◌≡◌, ◌⊎◌, inl, inr, ℕ, Bool, true, false, cond, not, ◌&&◌, ◌||◌, List, [], ◌∷◌, Option, Some, None, map, refl, sym, ap, subst, ◌∙◌}
+use Rattle.std.proofs.Common.{◌≡◌, ◌⊎◌, inl, inr, ℕ, Bool, true, false, cond, not, ◌&&◌, ◌||◌, List, [], ◌∷◌, Option, Some, None, refl, sym, ap, subst, ◌∙◌}
 use Rattle.std.proofs.lemmas.Bool.{false≢true}
 use Rattle.std.proofs.lemmas.List.Folds.{list_any_at}
 use Rattle.std.specs.Prelude.{IsTrue, Contains}
@@ -22,7 +22,6 @@ use Rattle.micro_ir.proofs.Values.{both_true}
 use Rattle.micro_ir.proofs.Worlds.{stmt_stays}
 use Rattle.flow_passes.specs.Uses.{NameSet, same_name, stmt_reads, stmt_sets, end_reads}
 use Rattle.flow_passes.specs.Alike.{Alike, DoesAlike, ArrivesAlike}
-use Rattle.flow_passes.specs.Laws.{Within}
 use Rattle.flow_passes.proofs.Names.{or_left, or_right}
 use Rattle.flow_passes.proofs.Statements.{statements_see}
 use Rattle.flow_passes.proofs.Ends.{ends_see}

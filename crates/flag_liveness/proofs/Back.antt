@@ -5,7 +5,7 @@ use Rattle.dream_words.specs.declared.machine.Width.{Width}
 use Rattle.c_syntax.specs.declared.syntax.CExpr.{CExpr}
 use Rattle.micro_ir.specs.declared.flow.Stmt.{Stmt}
 use Rattle.micro_ir.specs.declared.flow.Stmt.TheVariants as stmt
-use Rattle.flow_passes.specs.Uses.{NameSet, same_name, is_register, is_flag, word_reads, stmt_reads, stmt_sets}
+use Rattle.flow_passes.specs.Uses.{same_name, is_register, is_flag, word_reads, stmt_reads, stmt_sets}
 use Rattle.flag_liveness.specs.declared.seen.Seen.{Seen}
 use Rattle.flag_liveness.specs.Before.{is_unseen, live_before}
 use Rattle.flag_liveness.specs.Within.{names_within, Agree, Adds, GoesBack}

@@ -1,5 +1,5 @@
 -- Rows that are closed, and temporaries, make sets of live names that are closed.
-use Rattle.std.proofs.Common.{◌≡◌, ◌⊎◌, inl, inr, ℕ, nat_lt, ◌^◌, Bool, true, false, cond, not, ◌&&◌, ◌||◌, List, [], ◌∷◌, Some, refl, sym, ap, subst, ◌∙◌}
+use Rattle.std.proofs.Common.{◌≡◌, ◌⊎◌, inl, inr, ℕ, nat_lt, Bool, true, false, cond, not, ◌&&◌, ◌||◌, List, [], ◌∷◌, Some, refl, sym, ap, ◌∙◌}
 use Rattle.std.proofs.lemmas.Bool.{false≢true}
 use Rattle.std.specs.Prelude.{IsTrue, slice_get}
 use Rattle.std.specs.List.{list_any}
@@ -20,7 +20,7 @@ use Rattle.flow_passes.proofs.Reading.{word_reads_layer}
 use Rattle.flag_liveness.specs.declared.live.Live.{Live}
 use Rattle.flag_liveness.specs.declared.seen.Seen.{Seen}
 use Rattle.flag_liveness.specs.Before.{is_itself, is_unseen, live_before_all, live_at, live_in, AreLive}
-use Rattle.flag_liveness.specs.Across.{read_first, block_reads, Crosses}
+use Rattle.flag_liveness.specs.Across.{read_first, Crosses}
 use Rattle.flag_liveness.specs.Within.{names_within, Agree}
 use Rattle.flag_liveness.specs.Lives.{held_in, live_of, across_of}
 use Rattle.flag_liveness.specs.Settled.{AreClosed}
@@ -78,7 +78,7 @@ module _ (last carry : NameSet) (k : Name) where
 live_same : (a b : NameSet) (k : Name) → a k ≡ b k → a k ≡ b k
 live_same a b k e = e
 
-target_live : (k : Name) (h : Bool) → IsTrue (is_flow_target k) → (not (is_flow_target k) || h) ≡ h
+pub target_live : (k : Name) (h : Bool) → IsTrue (is_flow_target k) → (not (is_flow_target k) || h) ≡ h
 target_live k h t = ap (λ b. not b || h) t
 
 any_same : (p q : ℕ → Bool) (xs : List ℕ) → ((x : ℕ) → p x ≡ q x) → list_any p xs ≡ list_any q xs
@@ -96,7 +96,7 @@ any_is true xs t = refl
 any_is false [] t = t
 any_is false (x ∷ xs) t = any_is false xs t
 
-not_target : (k : Name) (h : Bool) → is_flow_target k ≡ false → (not (is_flow_target k) || h) ≡ true
+pub not_target : (k : Name) (h : Bool) → is_flow_target k ≡ false → (not (is_flow_target k) || h) ≡ true
 not_target k h e = ap (λ b. not b || h) e
 
 temp_live : (f : Flow) (l : Live) (k : ℕ) (b : Block) (i : ℕ) → Crosses f.blocks (across_of l) → slice_get f.blocks k ≡ Some b → IsTrue (is_flow_target (n.T i)) → live_in b (live_of l) (n.T i) ≡ true → across_of l i ≡ true
@@ -105,11 +105,11 @@ temp_live f l k b i c e t h = elim (read_or_carried (end_reads b.end) (λ j. lis
   | inr p ↦ any_is (across_of l i) (nodes_of b.end) (sym (any_same (λ m. live_of l m (n.T i)) (λ m. across_of l i) (nodes_of b.end) (λ m. target_live (n.T i) (across_of l i) t)) ∙ p)
 ]
 
-and_self : (b : Bool) → b ≡ true → IsTrue (b && true)
+pub and_self : (b : Bool) → b ≡ true → IsTrue (b && true)
 and_self true e = refl
 and_self false e = e
 
-and_not : (b : Bool) → b ≡ false → (b && true) ≡ false
+pub and_not : (b : Bool) → b ≡ false → (b && true) ≡ false
 and_not true e = e
 and_not false e = refl
 

@@ -10,12 +10,11 @@ use Rattle.c_syntax.specs.declared.syntax.CCond.{CCond}
 use Rattle.micro_ir.specs.declared.flow.Case.{Case}
 use Rattle.micro_ir.specs.declared.flow.End.{End as BlockEnd}
 use Rattle.micro_ir.specs.declared.flow.End.TheVariants as end
-use Rattle.micro_ir.specs.Rule.{is_flow_target}
 use Rattle.flow_passes.specs.Uses.{NameSet, is_register, word_reads, cond_reads, end_reads}
 use Rattle.flag_liveness.specs.declared.row.Row.{Row}
 use Rattle.flag_liveness.specs.declared.seen.Seen.{Seen}
 use Rattle.flag_liveness.specs.Before.{live_at}
-use Rattle.flag_liveness.specs.Rows.{row_names, is_in_rows, SameRow}
+use Rattle.flag_liveness.specs.Rows.{row_names, SameRow}
 use Rattle.flag_liveness.specs.Within.{row_or_temps, names_within, Agree, Adds}
 
 and_true : (b : Bool) → IsTrue (b && true) → IsTrue b

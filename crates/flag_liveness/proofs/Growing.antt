@@ -1,5 +1,5 @@
 -- Rows that grow.
-use Rattle.std.proofs.Common.{◌≡◌, ◌⊎◌, inl, inr, ℕ, suc, ◌+◌, ◌<◌, ◌≤◌, zero, nat_lt, Bool, true, false, cond, not, ◌&&◌, ◌||◌, List, [], ◌∷◌, Option, length, get_or, set, Some, refl, sym, ap, subst, ◌∙◌, arith}
+use Rattle.std.proofs.Common.{◌≡◌, inl, inr, ℕ, suc, ◌+◌, ◌<◌, ◌≤◌, zero, nat_lt, Bool, true, false, not, ◌&&◌, ◌||◌, List, [], ◌∷◌, Option, length, get_or, set, Some, refl, sym, ap, subst, ◌∙◌, arith}
 use Rattle.std.proofs.lemmas.Bool.{false≢true, cases_eq}
 use Rattle.std.proofs.lemmas.List.Sums.{sum_by-set}
 use Rattle.std.proofs.lemmas.Option.{slice_get_read}
@@ -19,8 +19,9 @@ use Rattle.flag_liveness.specs.declared.live.Live.{Live}
 use Rattle.flag_liveness.specs.Before.{live_in}
 use Rattle.flag_liveness.specs.Rows.{row_names, is_in_rows, unset, SameRow}
 use Rattle.flag_liveness.specs.Within.{row_or_temps, names_within, Agree}
-use Rattle.flag_liveness.specs.Lives.{row_in, across_of, held_in, live_of}
+use Rattle.flag_liveness.specs.Lives.{row_in, across_of, live_of}
 use Rattle.flag_liveness.specs.Settled.{unset_in, IsClosedAt, AreClosed}
+use Rattle.flag_liveness.specs.Reasons.{HaveReasons}
 use Rattle.flag_liveness.proofs.Kept.{block_rule}
 
 target : (b : Bool) → IsTrue b → IsTrue (b && true)
@@ -80,21 +81,23 @@ pub record Grown (blocks : List Block) (first now : Live) (more : Bool) (k : ℕ
   pub temps : now.temps ≡ first.temps
   pub less : unset_in now ≤ unset_in first
   pub fewer : more ≡ true → unset_in now < unset_in first
+  pub reasons : HaveReasons blocks (live_of now)
   pub closed : more ≡ false → (j : ℕ) (b : Block) → k ≤ j → slice_get blocks j ≡ Some b → IsClosedAt b now j
 
-pub grown_none : (blocks : List Block) (l : Live) (k : ℕ) → length l.rows.items ≡ length blocks → k ≡ length blocks → Grown blocks l l false k
-grown_none blocks l k e f = record {
+pub grown_none : (blocks : List Block) (l : Live) (k : ℕ) → length l.rows.items ≡ length blocks → k ≡ length blocks → HaveReasons blocks (live_of l) → Grown blocks l l false k
+grown_none blocks l k e f a = record {
   inside = omega arith;
   size = e;
   temps = refl;
   less = omega arith;
   fewer = λ q. absurd (false≢true q);
+  reasons = a;
   closed = λ q j b i h. let w : j < length blocks = within blocks j b h in absurd (omega arith);
 }
 
 -- a row grew
-pub grown_yes : (blocks : List Block) (first old new : Live) (was : Bool) (k j : ℕ) → Grown blocks first old was k → k ≡ suc j → new.temps ≡ old.temps → length new.rows.items ≡ length old.rows.items → unset_in new < unset_in old → Grown blocks first new true j
-grown_yes blocks first old new was k j h e t z u =
+pub grown_yes : (blocks : List Block) (first old new : Live) (was : Bool) (k j : ℕ) → Grown blocks first old was k → k ≡ suc j → new.temps ≡ old.temps → length new.rows.items ≡ length old.rows.items → unset_in new < unset_in old → HaveReasons blocks (live_of new) → Grown blocks first new true j
+grown_yes blocks first old new was k j h e t z u a =
     let inside : k ≤ length blocks = h.inside in
     let less : unset_in old ≤ unset_in first = h.less in
     record {
@@ -103,6 +106,7 @@ grown_yes blocks first old new was k j h e t z u =
       temps = t ∙ h.temps;
       less = omega arith;
       fewer = λ q. omega arith;
+      reasons = a;
       closed = λ q. absurd (false≢true (sym q));
     }
 
@@ -111,8 +115,8 @@ some_same x b o p q = cc
 
 -- no row grew
 pub grown_no : (blocks : List Block) (first old new : Live) (was : Bool) (k j : ℕ) (b : Block) → Grown blocks first old was k → k ≡ suc j → slice_get blocks j ≡ Some b → new.temps ≡ old.temps → length new.rows.items ≡ length old.rows.items → new.rows.items ≡ old.rows.items
-    → IsClosedAt b old j → Grown blocks first new was j
-grown_no blocks first old new was k j b h e at t z r c =
+    → IsClosedAt b old j → HaveReasons blocks (live_of new) → Grown blocks first new was j
+grown_no blocks first old new was k j b h e at t z r c a =
     let inside : k ≤ length blocks = h.inside in
     let less : unset_in old ≤ unset_in first = h.less in
     let same : unset_in new ≡ unset_in old = ap (sum_by unset) r in
@@ -122,6 +126,7 @@ grown_no blocks first old new was k j b h e at t z r c =
       temps = t ∙ h.temps;
       less = omega arith;
       fewer = λ q. let f : unset_in old < unset_in first = h.fewer q in omega arith;
+      reasons = a;
       closed = λ q i x l s. closed_same old new x i r t (elim (cases_eq i j) [
         | inl y ↦ subst (λ i. IsClosedAt x old i) (sym y) (subst (λ x. IsClosedAt x old j) (some_same x b (slice_get blocks j) (ap (slice_get blocks) (sym y) ∙ s) at) c)
         | inr y ↦ h.closed q i x (omega arith) s
@@ -137,12 +142,12 @@ item_rule bs k b t l e = block_rule bs k b (slice_get_read bs (length bs) k b re
 
 -- a row was looked at
 pub grown_step : (blocks : List Block) (first old new : Live) (was grew more : Bool) (k j : ℕ) (b : Block) → Grown blocks first old was k → k ≡ suc j → slice_get blocks j ≡ Some b → new.temps ≡ old.temps → length new.rows.items ≡ length old.rows.items
-    → (grew ≡ false → new.rows.items ≡ old.rows.items) → (grew ≡ true → unset_in new < unset_in old) → (grew ≡ false → IsClosedAt b old j) → more ≡ (was || grew) → Grown blocks first new more j
-grown_step blocks first old new was true more k j b h e at t z r f c m = subst (λ x. Grown blocks first new x j) (sym (m ∙ or_true was)) (grown_yes blocks first old new was k j h e t z (f refl)) where
+    → (grew ≡ false → new.rows.items ≡ old.rows.items) → (grew ≡ true → unset_in new < unset_in old) → (grew ≡ false → IsClosedAt b old j) → HaveReasons blocks (live_of new) → more ≡ (was || grew) → Grown blocks first new more j
+grown_step blocks first old new was true more k j b h e at t z r f c a m = subst (λ x. Grown blocks first new x j) (sym (m ∙ or_true was)) (grown_yes blocks first old new was k j h e t z (f refl) a) where
   or_true : (x : Bool) → (x || true) ≡ true
   or_true true = refl
   or_true false = refl
-grown_step blocks first old new was false more k j b h e at t z r f c m = subst (λ x. Grown blocks first new x j) (sym (m ∙ or_false was)) (grown_no blocks first old new was k j b h e at t z (r refl) (c refl)) where
+grown_step blocks first old new was false more k j b h e at t z r f c a m = subst (λ x. Grown blocks first new x j) (sym (m ∙ or_false was)) (grown_no blocks first old new was k j b h e at t z (r refl) (c refl) a) where
   or_false : (x : Bool) → (x || false) ≡ x
   or_false true = refl
   or_false false = refl

@@ -1,7 +1,7 @@
 -- A flow without what nobody sees keeps the flow.
-use Rattle.std.proofs.Common.{◌≡◌, ℕ, ◌<◌, List, length, Some, map, refl, sym, ap, subst, ◌∙◌}
+use Rattle.std.proofs.Common.{ℕ, ◌<◌, length, map, refl, sym, subst}
 use Rattle.std.proofs.lemmas.List.{length-map}
-use Rattle.std.specs.Prelude.{IsTrue, Contains, slice_get, ◌^◌}
+use Rattle.std.specs.Prelude.{IsTrue, Contains, ◌^◌}
 use Rattle.run_parts.specs.World.{World}
 use Rattle.micro_ir.specs.declared.flow.Block.{Block}
 use Rattle.micro_ir.specs.declared.flow.Flow.{Flow}
@@ -11,7 +11,7 @@ use Rattle.micro_ir.specs.Run.{stmts_do, block_leads}
 use Rattle.micro_ir.specs.World.{IsWorld}
 use Rattle.flow_passes.specs.Uses.{NameSet}
 use Rattle.flow_passes.specs.Alike.{Alike, ArrivesAlike, GoAlike}
-use Rattle.flow_passes.specs.Keeps.{Keeps, KeepsBlock}
+use Rattle.flow_passes.specs.Keeps.{KeepsBlock}
 use Rattle.flow_passes.proofs.Names.{alike_within}
 use Rattle.flow_passes.proofs.Walking.{going_alike_keeps_runs}
 use Rattle.flag_liveness.specs.Before.{AreLive, live_in, live_at}

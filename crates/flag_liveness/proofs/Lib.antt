@@ -9,5 +9,7 @@ pub mod Keeping
 pub mod Making
 pub mod Going
 pub mod Closing
+pub mod ReadOn
+pub mod Reasons
 pub mod Growing
 pub mod Crossing

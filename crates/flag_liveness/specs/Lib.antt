@@ -5,4 +5,6 @@ pub mod Lives
 pub mod Clean
 pub mod Laws
 pub mod Settled
+pub mod Read
+pub mod Reasons
 pub mod Across

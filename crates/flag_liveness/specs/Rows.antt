@@ -1,8 +1,8 @@
 -- The registers and flags of a row.
-use Rattle.std.specs.Prelude.{◌≡◌, ◌+◌, ℕ, nat_lt, not, Bool, true, false, ◌||◌, count_by, slice_index_or, IsTrue, if◌then◌else◌}
+use Rattle.std.specs.Prelude.{◌≡◌, ◌+◌, ℕ, nat_lt, not, true, false, count_by, slice_index_or, IsTrue}
 use Rattle.dream_words.specs.declared.machine.Name.{Name}
-use Rattle.dream_words.specs.declared.machine.Name.TheVariants.{Reg, Flag, Fs, Gs, T, B, S}
-use Rattle.flow_passes.specs.Uses.{NameSet, same_name}
+use Rattle.dream_words.specs.declared.machine.Name.TheVariants.{Reg, Flag}
+use Rattle.flow_passes.specs.Uses.{NameSet}
 use Rattle.flag_liveness.specs.declared.row.Row.{Row}
 
 -- a register or a flag that exists

@@ -1,9 +1,9 @@
 -- What is live at a place within a block.
-use Rattle.std.specs.Prelude.{◌≡◌, ℕ, Bool, true, false, not, ◌&&◌, ◌||◌, IsTrue}
+use Rattle.std.specs.Prelude.{◌≡◌, ℕ, Bool, not, ◌&&◌, ◌||◌, IsTrue}
 use Rattle.std.specs.Ordering.{nat_cmp}
 use Rattle.std.specs.BTreeSet as set
 use Rattle.dream_words.specs.declared.machine.Name.{Name}
-use Rattle.dream_words.specs.declared.machine.Name.TheVariants.{Reg, Flag, Fs, Gs, T, B, S}
+use Rattle.dream_words.specs.declared.machine.Name.TheVariants.{T}
 use Rattle.micro_ir.specs.Rule.{is_flow_target}
 use Rattle.micro_ir.specs.declared.flow.Stmt.{Stmt}
 use Rattle.flow_passes.specs.Uses.{NameSet, stmt_reads, stmt_sets}

@@ -10,10 +10,11 @@ ghost use Rattle.flag_liveness.specs.Before.{is_unseen, live_before};
 ghost use Rattle.flag_liveness.specs.Within.{names_within, Agree};
 ghost use Rattle.flag_liveness.specs.Lives.{live_of};
 ghost use Rattle.flag_liveness.specs.Clean.{cleaned, cleaned_block, cleaned_flow};
+ghost use Rattle.flag_liveness.specs.Read.{FlagsAreRead};
 
 use crate::live::Live;
 use crate::seen::Seen;
-use crate::settle::liveness;
+use crate::settle::live_by_reasons;
 use micro_ir::{Block, Flow, Stmt};
 use sqlite_items::Items;
 use std::alloc::{AllocError, Global};
@@ -24,8 +25,9 @@ pub fn clean(alloc: Global, f: Flow) -> Result<Flow, AllocError>
     requires { IsGiven f }
     ensures given { IfOk result (λ r. IsGiven r) }
     ensures keeps { IfOk result (λ r. Keeps f r) }
+    ensures read { IfOk result (λ r. FlagsAreRead r) }
 {
-    let live = liveness(alloc, &f)?;
+    let live = live_by_reasons(alloc, &f)?;
     let made = clean_by(alloc, f, &live)?;
     Ok(made)
 }

@@ -7,7 +7,10 @@ ghost use Rattle.flag_liveness.specs.Before.{AreLive, live_in};
 ghost use Rattle.flag_liveness.specs.Within.{names_within, Agree};
 ghost use Rattle.flag_liveness.specs.Lives.{live_of, across_of};
 ghost use Rattle.flag_liveness.specs.Across.{Crosses};
-ghost use Rattle.flag_liveness.specs.Settled.{unset_in, IsClosedAt, AreClosed};
+ghost use Rattle.flag_liveness.specs.Settled.{unset_in, IsClosedAt, AreClosed, Grows};
+ghost use Rattle.flag_liveness.specs.Rows.{row_names, SameRow};
+ghost use Rattle.flag_liveness.specs.declared.row.Row.{Row as AnyRow};
+ghost use Rattle.flag_liveness.specs.Reasons.{NodesInside, HaveReasons};
 
 use crate::across::across;
 use crate::live::Live;
@@ -21,6 +24,16 @@ pub fn liveness(alloc: Global, f: &Flow) -> Result<Live, AllocError>
     requires { IsGiven f.now }
     ensures { IfOk result (λ live. AreLive f.now (live_of live)) }
 {
+    let live = live_by_reasons(alloc, f)?;
+    Ok(live)
+}
+
+/// For each block the names that are live at its beginning, and no flag but those that are read from there on.
+pub(crate) fn live_by_reasons(alloc: Global, f: &Flow) -> Result<Live, AllocError>
+    requires { IsGiven f.now }
+    ensures closed { IfOk result (λ live. AreLive f.now (live_of live)) }
+    ensures reasons { IfOk result (λ live. HaveReasons f.now.blocks (live_of live)) }
+{
     let blocks = f.blocks.as_slice();
     let temps = across(alloc, blocks)?;
     let rows = no_rows(alloc, blocks.len())?;
@@ -31,7 +44,8 @@ pub fn liveness(alloc: Global, f: &Flow) -> Result<Live, AllocError>
 
 /// So many rows with no name.
 fn no_rows(alloc: Global, count: usize) -> Result<Vec<Row>, AllocError>
-    ensures { IfOk result (λ rows. length rows.items ≡ count) }
+    ensures count { IfOk result (λ rows. length rows.items ≡ count) }
+    ensures none { IfOk result (λ rows. (k : ℕ) (r : AnyRow) → slice_get rows.items k ≡ Some r → SameRow (row_names r) (λ n. false)) }
 {
     let rows = vec![in alloc; Row::none(); count]?;
     Ok(rows)
@@ -41,8 +55,11 @@ fn no_rows(alloc: Global, count: usize) -> Result<Vec<Row>, AllocError>
 fn settle(alloc: Global, blocks: &[Block], live: &mut Live) -> Result<(), AllocError>
     requires size { length live.old.rows.items ≡ length blocks.now }
     requires rule { IsTrue (are_flow_blocks blocks.now) }
+    requires nodes { NodesInside blocks.now }
+    requires reasons { HaveReasons blocks.now (live_of live.old) }
     ensures temps { live.new.temps ≡ live.old.temps }
     ensures closed { OnOk result (AreClosed blocks.now live.new) }
+    ensures reasons { OnOk result (HaveReasons blocks.now (live_of live.new)) }
 {
     'rounds: while grow_all(alloc, blocks, live)? {}
     Ok(())
@@ -52,10 +69,13 @@ fn settle(alloc: Global, blocks: &[Block], live: &mut Live) -> Result<(), AllocE
 fn grow_all(alloc: Global, blocks: &[Block], live: &mut Live) -> Result<bool, AllocError>
     requires size { length live.old.rows.items ≡ length blocks.now }
     requires rule { IsTrue (are_flow_blocks blocks.now) }
+    requires nodes { NodesInside blocks.now }
+    requires reasons { HaveReasons blocks.now (live_of live.old) }
     ensures temps { live.new.temps ≡ live.old.temps }
     ensures size { length live.new.rows.items ≡ length blocks.now }
     ensures fewer { IfOk result (λ more. more ≡ true → unset_in live.new < unset_in live.old) }
     ensures closed { IfOk result (λ more. more ≡ false → AreClosed blocks.now live.new) }
+    ensures reasons { OnOk result (HaveReasons blocks.now (live_of live.new)) }
 {
     let mut more = false;
     let mut k = blocks.len();
@@ -77,6 +97,7 @@ impl Live {
         ensures same { IfOk result (λ more. more ≡ false → self.new.rows.items ≡ self.old.rows.items) }
         ensures fewer { IfOk result (λ more. more ≡ true → unset_in self.new < unset_in self.old) }
         ensures closed { IfOk result (λ more. more ≡ false → IsClosedAt b.now self.old k) }
+        ensures grows { OnOk result (Grows b.now k self.old self.new) }
     {
         let before = self.before(alloc, b)?;
         let more = self.rows[k].add(&before.row);

@@ -6,9 +6,9 @@
 ghost use Rattle.std.specs.Prelude.{IfOk};
 ghost use Rattle.lift_wide.specs.Wide.{IsWideBlock};
 
+use lift_bits_strings::{bit, scan, string};
 use lift_products::{div, idiv, imul_wide, imul2, imul3, mul};
 use lift_shifts::{double_shift, shift};
-use lift_bits_strings::{bit, scan, string};
 use micro_ir::Block;
 use std::alloc::{AllocError, Global};
 use x86_inst::Inst;

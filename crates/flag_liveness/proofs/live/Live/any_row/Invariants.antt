@@ -1,5 +1,4 @@
-use Rattle.std.proofs.Common.{◌≡◌, ℕ, ◌||◌, map, drop}
-use Rattle.std.specs.Prelude.{IsTrue}
+use Rattle.std.proofs.Common.{◌||◌, map, drop}
 use Rattle.std.specs.List.{list_any}
 use Rattle.flag_liveness.specs.Rows.{row_names, SameRow}
 use Rattle.flag_liveness.specs.Lives.{held_in}
