@@ -6,11 +6,13 @@ ghost use Rattle.c_words.specs.Built.{num as number, name as local, cmp as compa
 ghost use Rattle.c_conds.specs.Free.{free_cond};
 ghost use Rattle.c_conds.specs.Placed.{IsPlaced, IsSmall, SetHolds, HoldsAfter};
 
+use crate::counted::comparisons;
+use crate::free;
 use crate::opposite::opposite;
-use crate::{free, within};
 use c_syntax::{CCmp, CCond, CExpr, CStmt};
 use c_words::{and, cmp, copy_cond, copy_word, or};
 use dream_words::Name;
+use expr_fold::cond_fits;
 use std::alloc::{AllocError, Global};
 
 /// How deep Words and Conds may nest.
@@ -117,7 +119,7 @@ fn small(alloc: Global, k: u32, c: &CCond, t: &CCond) -> Result<Option<CCond>, A
     ensures { IfOk result (λ o. IfSome o (λ u. IsSmall k c.now t.now u)) }
 {
     let u = placed(alloc, k, c, t)?;
-    if within::comparisons(&u) <= MOST && within::cond(&u, DEEPEST) {
+    if comparisons(&u) <= MOST && cond_fits(&u, DEEPEST) {
         Ok(Some(u))
     } else {
         Ok(None)
@@ -178,7 +180,7 @@ fn after(
 }
 
 /// A test after statements, with the condition of a local in the place of the local.
-pub fn test_after(
+pub(crate) fn test_after(
     alloc: Global,
     reads: &[u32],
     before: &[CStmt],
