@@ -10,15 +10,16 @@ use crate::statements::stmts;
 use c_syntax::CFun;
 use std::alloc::{AllocError, Global};
 
-/// How often a function reads each local for the outcome of a test, by the number of the local.
-fn reads_of(alloc: Global, f: &CFun) -> Result<Vec<u32>, AllocError> {
+/// How often a function reads each local for the outcome of a test elsewhere than in a test directly after it is set, by the number
+/// of the local.
+fn far_reads(alloc: Global, f: &CFun) -> Result<Vec<u32>, AllocError> {
     let mut counts = vec![in alloc; 0; f.bools as usize]?;
-    reads::stmts(&mut counts, f.body.as_slice());
+    let _set = reads::stmts(&mut counts, f.body.as_slice());
     Ok(counts)
 }
 
-/// The function with each condition in the place of the local that holds its outcome, where that is read once, in the
-/// test of the statement directly after the one that sets it.
+/// The function with each condition in the place of the local that holds its outcome, where that is read nowhere but in tests of the
+/// statement directly after the one that sets it.
 pub fn with_conds(alloc: Global, f: CFun) -> Result<CFun, AllocError>
     requires formed { IsWellFormed f }
     ensures formed { IfOk result (λ g. IsWellFormed g) }
@@ -26,8 +27,8 @@ pub fn with_conds(alloc: Global, f: CFun) -> Result<CFun, AllocError>
     ensures counts { IfOk result (λ g. KeepsCounts f g) }
     ensures address { IfOk result (λ g. g.address ≡ f.address) }
 {
-    let reads = reads_of(alloc, &f)?;
-    let body = stmts(alloc, &reads, f.body.as_slice())?;
+    let far = far_reads(alloc, &f)?;
+    let body = stmts(alloc, &far, f.body.as_slice())?;
     Ok(CFun {
         address: f.address,
         temps: f.temps,

@@ -1,4 +1,5 @@
-//! How often a function reads each local for the outcome of a test.
+//! How often a function reads each local for the outcome of a test elsewhere than in the test that stands directly after the local is
+//! set to the outcome of a condition.
 
 use c_syntax::{CArm, CCond, CExpr, CGroup, CStmt};
 use dream_words::Name;
@@ -73,9 +74,33 @@ fn cond(reads: &mut [u32], t: &CCond) {
     }
 }
 
-/// Counts what a statement reads.
+/// The local that a statement sets to the outcome of a condition.
+fn set_by(s: &CStmt) -> Option<u32> {
+    match s {
+        CStmt::Set(Name::B(k), CExpr::Pick(_, _, _)) => Some(*k),
+        _ => None,
+    }
+}
+
+/// Counts what a test reads, but for the local that was set directly before it.
+fn test(reads: &mut [u32], set: Option<u32>, t: &CCond) {
+    let Some(k) = set else {
+        cond(reads, t);
+        return;
+    };
+    let place = k as usize;
+    if place < reads.len() {
+        let before = reads[place];
+        cond(reads, t);
+        if place < reads.len() {
+            reads[place] = before;
+        }
+    }
+}
+
+/// Counts what a statement reads, after one that set a local.
 #[cycle(count_stmt)]
-fn stmt(reads: &mut [u32], s: &CStmt) {
+fn stmt(reads: &mut [u32], set: Option<u32>, s: &CStmt) {
     match s {
         CStmt::Set(_, e) => word(reads, e),
         CStmt::Load(_, _, e) => word(reads, e),
@@ -86,45 +111,52 @@ fn stmt(reads: &mut [u32], s: &CStmt) {
         CStmt::Ext(e) => word(reads, e),
         CStmt::Trap(_, e) => word(reads, e),
         CStmt::If(arms, last) => {
-            in_arms(reads, arms.as_slice());
+            in_arms(reads, set, arms.as_slice());
             match last {
                 None => {}
-                Some(body) => stmts(reads, body.as_slice()),
+                Some(body) => {
+                    let _set = stmts(reads, body.as_slice());
+                }
             }
         }
         CStmt::Switch(e, groups, last) => {
             word(reads, e);
             in_groups(reads, groups.as_slice());
-            stmts(reads, last.as_slice());
+            let _set = stmts(reads, last.as_slice());
         }
-        CStmt::Loop(body) => stmts(reads, body.as_slice()),
+        CStmt::Loop(body) => {
+            let _set = stmts(reads, body.as_slice());
+        }
         CStmt::While(t, body) => {
             cond(reads, t);
-            stmts(reads, body.as_slice());
+            let _set = stmts(reads, body.as_slice());
         }
         CStmt::DoWhile(body, t) => {
-            stmts(reads, body.as_slice());
-            cond(reads, t);
+            let set = stmts(reads, body.as_slice());
+            test(reads, set, t);
         }
         CStmt::Break => {}
         CStmt::Return => {}
     }
 }
 
-/// Counts what statements read.
+/// Counts what statements read. The answer is the local that the last one sets to the outcome of a condition.
 #[cycle(count_stmt)]
-pub(crate) fn stmts(reads: &mut [u32], body: &[CStmt]) {
+pub(crate) fn stmts(reads: &mut [u32], body: &[CStmt]) -> Option<u32> {
+    let mut set = None;
     for s in body {
-        stmt(reads, s);
+        stmt(reads, set, s);
+        set = set_by(s);
     }
+    set
 }
 
-/// Counts what the arms of an `if` read.
+/// Counts what the arms of an `if` read, after a statement that set a local.
 #[cycle(count_stmt)]
-fn in_arms(reads: &mut [u32], arms: &[CArm]) {
+fn in_arms(reads: &mut [u32], set: Option<u32>, arms: &[CArm]) {
     for a in arms {
-        cond(reads, &a.test);
-        stmts(reads, a.body.as_slice());
+        test(reads, set, &a.test);
+        let _set = stmts(reads, a.body.as_slice());
     }
 }
 
@@ -132,6 +164,6 @@ fn in_arms(reads: &mut [u32], arms: &[CArm]) {
 #[cycle(count_stmt)]
 fn in_groups(reads: &mut [u32], groups: &[CGroup]) {
     for g in groups {
-        stmts(reads, g.body.as_slice());
+        let _set = stmts(reads, g.body.as_slice());
     }
 }

@@ -11,7 +11,7 @@ use std::alloc::{AllocError, Global};
 
 /// A statement after others, with the conditions in its tests.
 #[cycle(with_conds)]
-fn stmt(alloc: Global, reads: &[u32], s: &CStmt, before: &[CStmt]) -> Result<CStmt, AllocError>
+fn stmt(alloc: Global, far: &[u32], s: &CStmt, before: &[CStmt]) -> Result<CStmt, AllocError>
     ensures { IfOk result (λ t. FollowsLike before.now s.now t) }
 {
     match s {
@@ -37,33 +37,33 @@ fn stmt(alloc: Global, reads: &[u32], s: &CStmt, before: &[CStmt]) -> Result<CSt
             Ok(CStmt::Trap(*vector, e))
         }
         CStmt::If(arms, last) => {
-            let arms = in_arms(alloc, reads, arms.as_slice(), before)?;
+            let arms = in_arms(alloc, far, arms.as_slice(), before)?;
             match last {
                 None => Ok(CStmt::If(arms, None)),
                 Some(body) => {
-                    let body = stmts(alloc, reads, body.as_slice())?;
+                    let body = stmts(alloc, far, body.as_slice())?;
                     Ok(CStmt::If(arms, Some(body)))
                 }
             }
         }
         CStmt::Switch(e, groups, last) => {
             let e = copy_word(alloc, e)?;
-            let groups = in_groups(alloc, reads, groups.as_slice())?;
-            let last = stmts(alloc, reads, last.as_slice())?;
+            let groups = in_groups(alloc, far, groups.as_slice())?;
+            let last = stmts(alloc, far, last.as_slice())?;
             Ok(CStmt::Switch(e, groups, last))
         }
         CStmt::Loop(body) => {
-            let body = stmts(alloc, reads, body.as_slice())?;
+            let body = stmts(alloc, far, body.as_slice())?;
             Ok(CStmt::Loop(body))
         }
         CStmt::While(t, body) => {
             let t = copy_cond(alloc, t)?;
-            let body = stmts(alloc, reads, body.as_slice())?;
+            let body = stmts(alloc, far, body.as_slice())?;
             Ok(CStmt::While(t, body))
         }
         CStmt::DoWhile(body, t) => {
-            let body = stmts(alloc, reads, body.as_slice())?;
-            let t = test_after(alloc, reads, body.as_slice(), t)?;
+            let body = stmts(alloc, far, body.as_slice())?;
+            let t = test_after(alloc, far, body.as_slice(), t)?;
             Ok(CStmt::DoWhile(body, t))
         }
         CStmt::Break => Ok(CStmt::Break),
@@ -73,16 +73,12 @@ fn stmt(alloc: Global, reads: &[u32], s: &CStmt, before: &[CStmt]) -> Result<CSt
 
 /// Statements with the conditions in their tests.
 #[cycle(with_conds)]
-pub(crate) fn stmts(
-    alloc: Global,
-    reads: &[u32],
-    body: &[CStmt],
-) -> Result<Items<CStmt>, AllocError>
+pub(crate) fn stmts(alloc: Global, far: &[u32], body: &[CStmt]) -> Result<Items<CStmt>, AllocError>
     ensures { IfOk result (λ ts. AreLike body.now ts) }
 {
     let mut kept = Items::new(alloc);
     for s in body {
-        let t = stmt(alloc, reads, s, kept.as_slice())?;
+        let t = stmt(alloc, far, s, kept.as_slice())?;
         kept.push(t)?;
     }
     Ok(kept)
@@ -92,7 +88,7 @@ pub(crate) fn stmts(
 #[cycle(with_conds)]
 fn in_arms(
     alloc: Global,
-    reads: &[u32],
+    far: &[u32],
     arms: &[CArm],
     before: &[CStmt],
 ) -> Result<Items<CArm>, AllocError>
@@ -100,8 +96,8 @@ fn in_arms(
 {
     let mut kept = Items::new(alloc);
     for a in arms {
-        let test = test_after(alloc, reads, before, &a.test)?;
-        let body = stmts(alloc, reads, a.body.as_slice())?;
+        let test = test_after(alloc, far, before, &a.test)?;
+        let body = stmts(alloc, far, a.body.as_slice())?;
         kept.push(CArm { test, body })?;
     }
     Ok(kept)
@@ -109,13 +105,13 @@ fn in_arms(
 
 /// The groups of a `switch`, with the conditions in the tests of their bodies.
 #[cycle(with_conds)]
-fn in_groups(alloc: Global, reads: &[u32], groups: &[CGroup]) -> Result<Items<CGroup>, AllocError>
+fn in_groups(alloc: Global, far: &[u32], groups: &[CGroup]) -> Result<Items<CGroup>, AllocError>
     ensures { IfOk result (λ bs. GroupsLike groups.now bs) }
 {
     let mut kept = Items::new(alloc);
     for g in groups {
         let values = Items::from_slice(alloc, g.values.as_slice())?;
-        let body = stmts(alloc, reads, g.body.as_slice())?;
+        let body = stmts(alloc, far, g.body.as_slice())?;
         kept.push(CGroup { values, body })?;
     }
     Ok(kept)
