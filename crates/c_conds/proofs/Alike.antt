@@ -18,8 +18,9 @@ use Rattle.c_syntax.specs.Run.{Part, Test, word_in, holds, run, run_arm, run_gro
 use Rattle.c_syntax.proofs.Layers.{run_layer, run_arm_layer, run_group_layer, stmt_depth_layer, arm_depth_layer, group_depth_layer, stmt_allowed_layer, arm_allowed_layer, group_allowed_layer}
 use Rattle.guarded.specs.Counts.{Weights, total, c_stmt_count_at, c_arm_count_at, c_group_count_at, c_stmt_count, c_arm_count, c_group_count}
 use Rattle.c_conds.specs.Placed.{HoldsAfter, FollowsLike, AreLike, ArmLike, ArmsLike, GroupLike, GroupsLike}
-use Rattle.c_conds.proofs.Bools.{and_first, and_second, and_both, ap2}
-use Rattle.c_conds.proofs.Lists.{equal_parts, run_append, run_one, all_first, all_second, all_both}
+use Rattle.c_locals.proofs.Bools.{and_first, and_second, and_both, ap2}
+use Rattle.c_emit.proofs.StmtRuns.{equal_parts, run_append, run_one}
+use Rattle.c_conds.proofs.Lists.{all_first, all_second, all_both}
 
 -- ---- layers of counts
 

@@ -10,7 +10,7 @@ use Rattle.c_syntax.specs.declared.syntax.CArm.{CArm-F}
 use Rattle.c_syntax.specs.declared.syntax.CFun.{CFun}
 use Rattle.c_syntax.specs.Depth.{word_depth, cond_depth}
 use Rattle.c_syntax.specs.Formed.{is_declared, is_base, is_target, is_word, cond_names, word_names, names_word, names_cond, are_distinct, Allowed, all, GroupAllowed, groups_values, all_groups, word_allowed, cond_allowed, stmt_at, arm_at, group_at, stmt_allowed}
-use Rattle.c_conds.proofs.Bools.{ap2}
+use Rattle.c_locals.proofs.Bools.{ap2}
 
 -- a function with another body
 abbrev pub with_body : CFun → List CStmt → CFun

@@ -13,7 +13,7 @@ use Rattle.c_syntax.proofs.Induct.{WordCases, every_cond}
 use Rattle.c_syntax.proofs.Layers.{word_of_layer, truth_of_layer}
 use Rattle.c_conds.specs.Free as free
 use Rattle.c_conds.specs.Free.{is_other, free_word, free_cond}
-use Rattle.c_conds.proofs.Bools.{no_true, and_first, and_second, ap2, ap3}
+use Rattle.c_locals.proofs.Bools.{no_true, and_first, and_second, ap2, ap3}
 
 -- the words after the local is set
 abbrev set_b : ℕ → Names → ℕ → Names

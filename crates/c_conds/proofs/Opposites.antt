@@ -14,7 +14,7 @@ use Rattle.c_syntax.specs.Formed.{names_word}
 use Rattle.c_syntax.proofs.Layers.{truth_of_layer, names_cond_layer}
 use Rattle.c_words.specs.Built as built
 use Rattle.c_conds.specs.Placed.{IsOpposite}
-use Rattle.c_conds.proofs.Bools.{and_first, and_second, and_both}
+use Rattle.c_locals.proofs.Bools.{and_first, and_second, and_both}
 
 pub truth_step : (y : CCond-F CCond CExpr) (v : Names) → truth_of (roll-CCond y) v ≡ truth_at (c.map-CCond CCond CExpr Truth Word truth_of word_of y) v
 truth_step y v = ap (λ g. g v) (truth_of_layer y)

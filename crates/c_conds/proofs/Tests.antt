@@ -23,10 +23,11 @@ use Rattle.c_syntax.proofs.Layers.{word_of_layer, names_cond_layer, names_word_l
 use Rattle.c_words.specs.Built as built
 use Rattle.c_conds.specs.Free.{free_cond}
 use Rattle.c_conds.specs.Placed.{IsOpposite, IsPlaced, IsSmall, SetHolds, HoldsAfter}
-use Rattle.c_conds.proofs.Bools.{and_first, and_second, and_both, ap2}
+use Rattle.c_locals.proofs.Bools.{and_first, and_second, and_both, ap2}
 use Rattle.c_conds.proofs.Freeing.{free_same}
 use Rattle.c_conds.proofs.Opposites.{truth_step, if_ok}
-use Rattle.c_conds.proofs.Lists.{run_append, run_one, all_second}
+use Rattle.c_emit.proofs.StmtRuns.{run_append, run_one}
+use Rattle.c_conds.proofs.Lists.{all_second}
 
 word_step : (y : CExpr-F CCond CExpr) (v : Names) → word_of (roll-CExpr y) v ≡ word_at (e.map-CExpr CCond CExpr Truth Word truth_of word_of y) v
 word_step y v = ap (λ g. g v) (word_of_layer y)

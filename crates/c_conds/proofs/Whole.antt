@@ -9,16 +9,9 @@ use Rattle.c_syntax.specs.Run.{Part}
 use Rattle.guarded.specs.Counts.{Weights, total, c_stmt_count, c_count, each_loop, each_test, each_ext, each_store}
 use Rattle.c_conds.specs.Placed.{AreLike}
 use Rattle.c_locals.specs.Keeps.{KeepsCounts}
+use Rattle.c_locals.proofs.FormedStmts.{all_is, deepest_is}
 use Rattle.c_conds.specs.Keeps.{HasTurns}
 use Rattle.c_conds.proofs.Formed.{with_body, stmts_same}
-
-all_is : (f : CFun) (ss : List CStmt) → all (map (stmt_allowed f) ss) false ≡ stmts_allowed f ss
-all_is f [] = refl
-all_is f (s ∷ ss) = ap (λ (b : Bool). stmt_allowed f s false && b) (all_is f ss)
-
-deepest_is : (ss : List CStmt) → deepest (map stmt_depth ss) ≡ stmts_depth ss
-deepest_is [] = refl
-deepest_is (s ∷ ss) = ap (λ (n : ℕ). max (stmt_depth s) n) (deepest_is ss)
 
 count_is : (w : Weights) (ss : List CStmt) → total (map (c_stmt_count w) ss) ≡ c_count w ss
 count_is w [] = refl

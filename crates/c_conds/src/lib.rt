@@ -1,11 +1,14 @@
 //! Conditions in the place of the locals that hold their outcomes, in tests.
-//! It is given the statement before a test, and the test.
-//! It promises a test that holds just where that one does after the statement.
+//! It is given a function of the C profile that is well formed.
+//! It promises one that is well formed, with the same counts and the same runs.
 #![tactic(auto)]
 
+mod counted;
 mod free;
+mod function;
 mod opposite;
 mod placing;
-mod within;
+mod reads;
+mod statements;
 
-pub use placing::test_after;
+pub use function::with_conds;

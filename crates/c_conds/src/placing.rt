@@ -6,11 +6,13 @@ ghost use Rattle.c_words.specs.Built.{num as number, name as local, cmp as compa
 ghost use Rattle.c_conds.specs.Free.{free_cond};
 ghost use Rattle.c_conds.specs.Placed.{IsPlaced, IsSmall, SetHolds, HoldsAfter};
 
+use crate::counted::comparisons;
+use crate::free;
 use crate::opposite::opposite;
-use crate::{free, within};
 use c_syntax::{CCmp, CCond, CExpr, CStmt};
 use c_words::{and, cmp, copy_cond, copy_word, or};
 use dream_words::Name;
+use expr_fold::cond_fits;
 use std::alloc::{AllocError, Global};
 
 /// How deep Words and Conds may nest.
@@ -106,10 +108,10 @@ fn placed(alloc: Global, k: u32, c: &CCond, t: &CCond) -> Result<CCond, AllocErr
     }
 }
 
-/// Whether the local is read once.
-fn is_read_once(reads: &[u32], k: u32) -> bool {
+/// Whether the local is read nowhere but in tests directly after it is set.
+fn is_read_near(far: &[u32], k: u32) -> bool {
     let place = k as usize;
-    place < reads.len() && reads[place] == 1
+    place < far.len() && far[place] == 0
 }
 
 /// A test with a condition in the place of the local, if it is small enough.
@@ -117,27 +119,27 @@ fn small(alloc: Global, k: u32, c: &CCond, t: &CCond) -> Result<Option<CCond>, A
     ensures { IfOk result (λ o. IfSome o (λ u. IsSmall k c.now t.now u)) }
 {
     let u = placed(alloc, k, c, t)?;
-    if within::comparisons(&u) <= MOST && within::cond(&u, DEEPEST) {
+    if comparisons(&u) <= MOST && cond_fits(&u, DEEPEST) {
         Ok(Some(u))
     } else {
         Ok(None)
     }
 }
 
-/// Whether a local is read once, and set to the outcome of a condition that doesn't read it.
-fn is_outcome(reads: &[u32], k: u32, c: &CCond, a: &CExpr, b: &CExpr) -> bool
+/// Whether a local is read nowhere but in tests directly after it is set, and set to the outcome of a condition that doesn't read it.
+fn is_outcome(far: &[u32], k: u32, c: &CCond, a: &CExpr, b: &CExpr) -> bool
     ensures one { IsTrue result → a.now ≡ number 1 }
     ensures zero { IsTrue result → b.now ≡ number 0 }
     ensures free { IsTrue result → IsTrue (free_cond k c.now) }
 {
-    is_number(a, 1) && is_number(b, 0) && free::cond(k, c) && is_read_once(reads, k)
+    is_number(a, 1) && is_number(b, 0) && free::cond(k, c) && is_read_near(far, k)
 }
 
 /// A test after a local is set, with the condition of the local in its place. None where it isn't set to the outcome of
 /// a condition, or is read elsewhere too.
 fn after_set(
     alloc: Global,
-    reads: &[u32],
+    far: &[u32],
     k: u32,
     e: &CExpr,
     t: &CCond,
@@ -149,7 +151,7 @@ fn after_set(
             let c = c.get();
             let a = a.get();
             let b = b.get();
-            if is_outcome(reads, k, c, a, b) {
+            if is_outcome(far, k, c, a, b) {
                 small(alloc, k, c, t)
             } else {
                 Ok(None)
@@ -160,17 +162,12 @@ fn after_set(
 }
 
 /// A test after a statement.
-fn after(
-    alloc: Global,
-    reads: &[u32],
-    before: &CStmt,
-    t: &CCond,
-) -> Result<Option<CCond>, AllocError>
+fn after(alloc: Global, far: &[u32], before: &CStmt, t: &CCond) -> Result<Option<CCond>, AllocError>
     ensures { IfOk result (λ o. IfSome o (λ u. HoldsAfter (before.now ∷ []) t.now u)) }
 {
     match before {
         CStmt::Set(n, e) => match n {
-            Name::B(k) => after_set(alloc, reads, *k, e, t),
+            Name::B(k) => after_set(alloc, far, *k, e, t),
             _ => Ok(None),
         },
         _ => Ok(None),
@@ -178,9 +175,9 @@ fn after(
 }
 
 /// A test after statements, with the condition of a local in the place of the local.
-pub fn test_after(
+pub(crate) fn test_after(
     alloc: Global,
-    reads: &[u32],
+    far: &[u32],
     before: &[CStmt],
     t: &CCond,
 ) -> Result<CCond, AllocError>
@@ -188,7 +185,7 @@ pub fn test_after(
 {
     match before.last() {
         None => copy_cond(alloc, t),
-        Some(last) => match after(alloc, reads, last, t)? {
+        Some(last) => match after(alloc, far, last, t)? {
             None => copy_cond(alloc, t),
             Some(u) => Ok(u),
         },

@@ -33,11 +33,11 @@ base_same m (name.B n) = refl
 base_same m (name.S n) = refl
 
 -- statements one after another are allowed outside of loops and switches
-all_is : (f : CFun) (ss : List CStmt) → all (map (stmt_allowed f) ss) false ≡ stmts_allowed f ss
+pub all_is : (f : CFun) (ss : List CStmt) → all (map (stmt_allowed f) ss) false ≡ stmts_allowed f ss
 all_is f [] = refl
 all_is f (s ∷ ss) = ap (λ (b : Bool). stmt_allowed f s false && b) (all_is f ss)
 
-deepest_is : (ss : List CStmt) → deepest (map stmt_depth ss) ≡ stmts_depth ss
+pub deepest_is : (ss : List CStmt) → deepest (map stmt_depth ss) ≡ stmts_depth ss
 deepest_is [] = refl
 deepest_is (s ∷ ss) = ap (λ (n : ℕ). max (stmt_depth s) n) (deepest_is ss)
 

@@ -1,4 +1,4 @@
-mod Bools
+pub mod Bools
 mod ReadNames
 mod Marking
 mod Numbers
@@ -9,5 +9,5 @@ mod PartsAlike
 mod Simple
 mod StmtRuns
 mod Counting
-mod FormedStmts
+pub mod FormedStmts
 mod Whole

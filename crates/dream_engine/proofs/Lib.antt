@@ -1,1 +1,2 @@
 mod Composed
+mod Settling

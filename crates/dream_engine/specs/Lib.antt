@@ -1,3 +1,4 @@
 pub mod Agreement
+pub mod Settled
 pub mod Short
 pub mod Tree

@@ -9,6 +9,7 @@ ghost use Rattle.micro_ir.specs.Rule.{IsGiven};
 ghost use Rattle.regions.specs.Laws.{IsPlainOf};
 
 use crate::form::Form;
+use crate::settled::settled;
 use crate::short::shortened;
 use c_emit::emit;
 use c_print::print;
@@ -87,7 +88,8 @@ pub fn decompile_fun(alloc: Global, m: &Image, r: &Range, form: Form) -> Result<
 {
     let found = discover(alloc, m, r)?;
     let f = function_of(alloc, m, r, &found, form)?;
-    Ok(f)
+    let g = settled(alloc, f)?;
+    Ok(g)
 }
 
 /// The text of that function.

@@ -5,6 +5,7 @@
 
 mod decompile;
 mod form;
+mod settled;
 mod short;
 
 pub use decompile::{decompile_fun, decompile_one};

@@ -1,7 +1,7 @@
 use Rattle.std.proofs.Common.{◌∙◌, sym}
 use Rattle.c_syntax.specs.declared.syntax.CExpr.TheVariants as word
 use Rattle.c_words.specs.Built.{pick}
-use Rattle.c_conds.proofs.Bools.{ap3}
+use Rattle.c_locals.proofs.Bools.{ap3}
 use Rattle.c_conds.proofs.Tests.{set_if}
 use Rattle.c_conds.proofs.placing.after_set.Goals as goal
 
