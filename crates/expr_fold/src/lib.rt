@@ -4,12 +4,14 @@
 #![tactic(auto)]
 
 mod blocks;
+mod counts;
 mod delayed;
 mod ends;
 mod fits;
 mod flows;
 mod folding;
 mod loads;
+mod moves;
 mod order;
 mod placed;
 mod policy;

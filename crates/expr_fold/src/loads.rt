@@ -17,7 +17,7 @@ use micro_ir::{End, Expr, Stmt};
 const FAR: u32 = 2000;
 
 /// Whether a statement reads a name.
-fn stmt_reads(s: &Stmt, n: Name) -> bool
+pub(crate) fn stmt_reads(s: &Stmt, n: Name) -> bool
     ensures { result ≡ stmt_reads s.now n }
 {
     match s {
