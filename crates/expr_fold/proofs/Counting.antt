@@ -18,7 +18,9 @@ use Rattle.c_syntax.specs.declared.syntax.CExpr.TheVariants as word
 use Rattle.c_syntax.specs.declared.syntax.CCond as conds
 use Rattle.c_syntax.specs.declared.syntax.CCond.TheVariants as test
 use Rattle.c_syntax.specs.declared.syntax.CCond.{CCond, CCond-F, roll-CCond}
+use Rattle.dream_words.specs.declared.machine.Width.{Width}
 use Rattle.micro_ir.specs.declared.flow.Stmt.{Stmt}
+use Rattle.micro_ir.specs.declared.flow.Stmt.TheVariants as stmt
 use Rattle.micro_ir.specs.declared.flow.End.{End as BlockEnd}
 use Rattle.micro_ir.specs.declared.flow.Block.{Block}
 use Rattle.flow_passes.specs.Uses.{same_name}
@@ -34,7 +36,7 @@ counted_same r b c e h = record { some = λ t. h.some t ∙ ap (nat_le 1) (e t);
 
 -- some reads, and then others
 pub notes_two : (c d : Counts) (x y z : Reads) → Notes c x y → Notes d y z → Notes (λ n. c n + d n) x z
-notes_two c d x y z p q = record { of = λ b h. counted_same z (λ n. (b n + c n) + d n) _ (λ t. omega arith) (q.of (λ n. b n + c n) (p.of b h)) }
+notes_two c d x y z p q = record { of = λ b h. counted_same z (λ n. (b n + c n) + d n) (λ n. b n + (c n + d n)) (λ t. omega arith) (q.of (λ n. b n + c n) (p.of b h)) }
 
 pub notes_three : (c d e : Counts) (x y z v : Reads) → Notes c x y → Notes d y z → Notes e z v → Notes (λ n. c n + (d n + e n)) x v
 notes_three c d e x y z v p q k = notes_two c (λ n. d n + e n) x y v p (notes_two d e y z v q k)
@@ -54,7 +56,7 @@ cond_is : (a b : CCond) (x y : Reads) → b ≡ a → Notes (count_in_cond b) x 
 cond_is a b x y i p = subst (λ (k : CCond). Notes (count_in_cond k) x y) i p
 
 pub nothing_more : (x : Reads) → Notes (λ n. 0) x x
-nothing_more x = record { of = λ b h. counted_same x b _ (λ t. omega arith) h }
+nothing_more x = record { of = λ b h. counted_same x b (λ n. b n + 0) (λ t. omega arith) h }
 
 -- the reads of Words by their parts
 pub notes_num : (n : ℕ) (e : CExpr) (x : Reads) → e ≡ (words.Num n) → Notes (count_in_word e) x x
@@ -134,8 +136,8 @@ Inserts x y t = (q : ℕ) → set.contains nat_cmp y q ≡ cond (is_eq (nat_cmp 
 pub notes_first : (t : ℕ) (x y : Reads) → Inserts x.some y.some t → y.more ≡ x.more → set.contains nat_cmp x.some t ≡ false → Notes (λ n. cond (same_name (name.T t) n) 1 0) x y
 notes_first t x y i e f = record {
   of = λ b h. record {
-    some = λ q. noted_some _ (nat_eq t q) _ _ (b (name.T q)) (compared t q) (i q) (h.some q);
-    more = λ q. ap (λ s. set.contains nat_cmp s q) e ∙ noted_first (nat_eq t q) _ (b (name.T q)) (λ g. subst (λ k. b (name.T k) ≡ 0) (number_same t q g) (none_yet _ _ (h.some t) f)) (h.more q);
+    some = λ q. noted_some (is_eq (nat_cmp t q)) (nat_eq t q) (set.contains nat_cmp x.some q) (set.contains nat_cmp y.some q) (b (name.T q)) (compared t q) (i q) (h.some q);
+    more = λ q. ap (λ s. set.contains nat_cmp s q) e ∙ noted_first (nat_eq t q) (set.contains nat_cmp x.more q) (b (name.T q)) (λ g. subst (λ k. b (name.T k) ≡ 0) (number_same t q g) (none_yet (set.contains nat_cmp x.some t) (b (name.T t)) (h.some t) f)) (h.more q);
   };
 }
 
@@ -143,17 +145,21 @@ notes_first t x y i e f = record {
 pub notes_again : (t : ℕ) (x y : Reads) → Inserts x.some y.some t → Inserts x.more y.more t → set.contains nat_cmp x.some t ≡ true → Notes (λ n. cond (same_name (name.T t) n) 1 0) x y
 notes_again t x y i j f = record {
   of = λ b h. record {
-    some = λ q. noted_some _ (nat_eq t q) _ _ (b (name.T q)) (compared t q) (i q) (h.some q);
-    more = λ q. noted_again _ (nat_eq t q) _ _ (b (name.T q)) (compared t q) (λ g. subst (λ k. 1 ≤ b (name.T k)) (number_same t q g) (some_yet _ _ (h.some t) f)) (j q) (h.more q);
+    some = λ q. noted_some (is_eq (nat_cmp t q)) (nat_eq t q) (set.contains nat_cmp x.some q) (set.contains nat_cmp y.some q) (b (name.T q)) (compared t q) (i q) (h.some q);
+    more = λ q. noted_again (is_eq (nat_cmp t q)) (nat_eq t q) (set.contains nat_cmp x.more q) (set.contains nat_cmp y.more q) (b (name.T q)) (compared t q) (λ g. subst (λ k. 1 ≤ b (name.T k)) (number_same t q g) (some_yet (set.contains nat_cmp x.some t) (b (name.T t)) (h.some t) f)) (j q) (h.more q);
   };
 }
 
 -- a read of no temporary
 pub notes_other : (m : Name) (x : Reads) → ((t : ℕ) → m ≡ name.T t → ⊥) → Notes (λ n. cond (same_name m n) 1 0) x x
-notes_other m x h = record { of = λ b g. counted_same x b _ (λ t. apart (same_name m (name.T t)) _ (λ e. h t (same_true m (name.T t) e))) g } where
+notes_other m x h = record { of = λ b g. counted_same x b (λ n. b n + cond (same_name m n) 1 0) (λ t. apart (same_name m (name.T t)) (b (name.T t)) (λ e. h t (same_true m (name.T t) e))) g } where
   apart : (b : Bool) (k : ℕ) → (b ≡ true → ⊥) → k ≡ k + cond b 1 0
   apart true k f = absurd (f refl)
   apart false k f = omega arith
+
+-- the reads of a store
+pub notes_store : (width : Width) (a b : CExpr) (s : Stmt) (x y z : Reads) → s ≡ stmt.Store width a b → Notes (count_in_word a) x y → Notes (count_in_word b) y z → Notes (reads_of_stmt s) x z
+notes_store width a b s x y z e p q = subst (λ (k : Stmt). Notes (reads_of_stmt k) x z) (sym e) (notes_two (count_in_word a) (count_in_word b) x y z p q)
 
 -- ---- lists
 

@@ -25,7 +25,7 @@ use Rattle.expr_fold.specs.Folds.{FoldsBlock, FoldsBlocks}
 use Rattle.expr_fold.specs.Direct.{NoneStandsDirectlyBefore}
 use Rattle.expr_fold.proofs.Named.{true_or_false, and_true, not_both}
 use Rattle.expr_fold.proofs.Folded.{flow_given, flow_keeps}
-use Rattle.expr_fold.proofs.Moving.{Bounded, NoRegisters, Loses, AllApart, stmt_read, end_read, moved_loses, moved_apart, apart_at, apart_end, unfit_stmt, unfit_end}
+use Rattle.expr_fold.proofs.Moving.{Bounded, NoRegisters, Loses, loses_none, AllApart, some_read, stmt_read, end_read, moved_loses, moved_apart, apart_at, apart_end, unfit_stmt, unfit_end}
 use Rattle.expr_fold.proofs.Keeping.{IsRuled, moved_ruled, moved_alike}
 use Rattle.expr_fold.proofs.Unseen.{ReadsWithin, Hidden, arrives_twice, leads, leads_alike, moved_leads}
 
@@ -49,14 +49,14 @@ pub counted_once : (r : Reads) (bs : List Block) → Counted r (reads_of bs) →
 counted_once r bs h = record {
   temps = no_register r;
   few = few_once r bs h;
-  more = λ t f. some_more (set.contains nat_cmp r.more t) _ (h.more t) f;
+  more = λ t f. some_more (set.contains nat_cmp r.more t) (reads_of bs (name.T t)) (h.more t) f;
 } where
   no_register : (r : Reads) → NoRegisters (once_of r)
   no_register r (name.T t) i = refl
   no_register r n i = absurd (let z : ⊥ = cc in z)
 
   few_once : (r : Reads) (bs : List Block) → Counted r (reads_of bs) → (n : Name) → IsTrue (once_of r n) → reads_of bs n ≤ 1
-  few_once r bs h (name.T t) i = not_more (set.contains nat_cmp r.more t) _ (h.more t) i
+  few_once r bs h (name.T t) i = not_more (set.contains nat_cmp r.more t) (reads_of bs (name.T t)) (h.more t) i
   few_once r bs h n i = absurd (let z : ⊥ = cc in z)
 
 -- ---- blocks
@@ -77,31 +77,30 @@ few_at once (x ∷ xs) zero b h e = subst (λ (y : Block). Bounded once y.stmts 
 few_at once (x ∷ xs) (suc k) b h e = few_at once xs k b (rest_few once x xs h) e
 
 two_lose : (once : NameSet) (n : Name) (a b c d : ℕ) → Loses once n a b → Loses once n c d → Loses once n (a + c) (b + d)
-two_lose once n a b c d h g = (h.0 + g.0, let x = h.1 in let y = g.1 in omega (arith, x, y), λ f. let x = h.2 f in let y = g.2 f in omega (arith, x, y))
+two_lose once n a b c d h g =
+    let x = h.is in
+    let y = g.is in
+    record { lost = h.lost + g.lost; is = omega (arith, x, y); only = λ f. let x = h.only f in let y = g.only f in omega (arith, x, y) }
 
 blocks_lose : (once : NameSet) → NoRegisters once → (bs : List Block) → Few once bs → (n : Name) → Loses once n (reads_of bs n) (reads_of (map (moved_block once) bs) n)
-blocks_lose once regs [] h n = (0, refl, λ f. refl)
+blocks_lose once regs [] h n = loses_none once n 0
 blocks_lose once regs (b ∷ bs) h n = two_lose once n _ _ _ _ (moved_loses once regs b.stmts b.end (block_few once b bs h) n) (blocks_lose once regs bs (rest_few once b bs h) n)
 
 abbrev reads_of_block : Block → Name → ℕ
 reads_of_block b n = reads_of_rest b.stmts b.end n
 
 -- where one block has fewer reads all have
-first_less : (a b c d x : ℕ) → b + x ≡ a → d < c → d + b < c + a
-first_less a b c d x h l = omega (arith, h, l)
-
-later_less : (a b c d x : ℕ) → b + x ≡ a → d < c → b + d < a + c
-later_less a b c d x h l = omega (arith, h, l)
-
 less_at : (once : NameSet) → NoRegisters once → (bs : List Block) → Few once bs → (n : Name) (k : ℕ) (b : Block) → slice_get bs k ≡ Some b → reads_of_block (moved_block once b) n < reads_of_block b n
     → reads_of (map (moved_block once) bs) n < reads_of bs n
 less_at once regs [] h n k b e l = absurd (let z : ⊥ = cc in z)
 less_at once regs (x ∷ xs) h n zero b e l =
-    let rest = blocks_lose once regs xs (rest_few once x xs h) n in
-    first_less _ _ _ _ _ rest.1 (subst (λ y. reads_of_block (moved_block once y) n < reads_of_block y n) (let z : b ≡ x = cc in z) l)
+    let rest = (blocks_lose once regs xs (rest_few once x xs h) n).is in
+    let less = subst (λ y. reads_of_block (moved_block once y) n < reads_of_block y n) (let z : b ≡ x = cc in z) l in
+    omega (arith, rest, less)
 less_at once regs (x ∷ xs) h n (suc k) b e l =
-    let first = moved_loses once regs x.stmts x.end (block_few once x xs h) n in
-    later_less _ _ _ _ _ first.1 (less_at once regs xs (rest_few once x xs h) n k b e l)
+    let first = (moved_loses once regs x.stmts x.end (block_few once x xs h) n).is in
+    let less = less_at once regs xs (rest_few once x xs h) n k b e l in
+    omega (arith, first, less)
 
 -- a block has no more reads than all
 at_most : (bs : List Block) (k : ℕ) (b : Block) (n : Name) → slice_get bs k ≡ Some b → reads_of_block b n ≤ reads_of bs n
@@ -127,14 +126,10 @@ is_seen : (a : Bool) (k : ℕ) → (IsTrue a → 1 ≤ k) → IsTrue (not (a && 
 is_seen true k h = let l = h refl in grind (arith, l)
 is_seen false k h = refl
 
-some_read : (b : Bool) (k : ℕ) → b ≡ nat_le 1 k → IsTrue b → 1 ≤ k
-some_read true k e t = grind (arith, e)
-some_read false k e t = absurd (let z : ⊥ = cc in z)
-
 reads_seen : (once : NameSet) (reads : Name → ℕ) → NoRegisters once → (ss : List Stmt) (e : BlockEnd) → ((n : Name) → reads_of_rest ss e n ≤ reads n) → ReadsWithin (seen_by once reads) ss e
-reads_seen once reads regs [] e l = λ n t. is_seen (once n) (reads n) (λ o. let x = some_read (end_reads e n) _ (end_read e n (regs n o)) t in let y = l n in omega (arith, x, y))
+reads_seen once reads regs [] e l = λ n t. is_seen (once n) (reads n) (λ o. let x = some_read (end_reads e n) (reads_of_end e n) (end_read e n (regs n o)) t in let y = l n in omega (arith, x, y))
 reads_seen once reads regs (s ∷ ss) e l =
-    (λ n t. is_seen (once n) (reads n) (λ o. let x = some_read (stmt_reads s n) _ (stmt_read s n (regs n o)) t in let y = l n in omega (arith, x, y)), reads_seen once reads regs ss e (λ n. let y = l n in omega (arith, y)))
+    (λ n t. is_seen (once n) (reads n) (λ o. let x = some_read (stmt_reads s n) (reads_of_stmt s n) (stmt_read s n (regs n o)) t in let y = l n in omega (arith, x, y)), reads_seen once reads regs ss e (λ n. let y = l n in omega (arith, y)))
 
 -- ---- a block, and blocks
 
@@ -149,7 +144,7 @@ block_keeps once bs h j b at t k =
     let ruled = both_true (are_flow_stmts b.stmts) (is_flow_end b.end) t in
     let rule = moved_ruled once b.stmts b.end (ruled.0, ruled.1) in
     let alike = moved_alike once b.stmts b.end in
-    let hidden : Hidden once seen b.stmts b.end (moved once b.stmts ([], b.end)) = λ n o l. not_seen (once n) (reads n) o (none_left _ _ (less_at once h.temps bs h.few n j b at l) (h.few n o)) in
+    let hidden : Hidden once seen b.stmts b.end (moved once b.stmts ([], b.end)) = λ n o l. not_seen (once n) (reads n) o (none_left (reads n) (reads_of bs n) (less_at once h.temps bs h.few n j b at l) (h.few n o)) in
     let within = reads_seen once reads h.temps c.stmts c.end (λ n. at_most (map (moved_block once) bs) j c n (also_mapped once bs j b at)) in
     record {
       keeps = record { at = refl; end = alike.end; loads = alike.loads; stores = alike.stores; calls = alike.calls };
@@ -181,7 +176,7 @@ still_once : (once : NameSet) (bs : List Block) → IsOnce once bs → (t : ℕ)
 still_once once bs h t e = by_case (true_or_false (once (name.T t))) where
   by_case : (once (name.T t) ≡ true) ⊎ (once (name.T t) ≡ false) → IsTrue (once (name.T t))
   by_case (inl i) = i
-  by_case (inr f) = absurd (let x = blocks_lose once h.temps bs h.few (name.T t) in let y = x.1 in let z = x.2 f in let m = h.more t f in omega (arith, e, y, z, m))
+  by_case (inr f) = absurd (let x = blocks_lose once h.temps bs h.few (name.T t) in let y = x.is in let z = x.only f in let m = h.more t f in omega (arith, e, y, z, m))
 
 block_apart : (once : NameSet) (bs : List Block) (k : ℕ) (c : Block) → slice_get (map (moved_block once) bs) k ≡ Some c → AllApart once c.stmts c.end
 block_apart once bs k c at =
@@ -193,9 +188,9 @@ moved_direct once bs g h e = record {
   before_stmt = λ k i t b a s at p q r o.
       let once_read = still_once once bs h t (subst (λ x. reads_of x (name.T t) ≡ 1) e o) in
       let apart = block_apart once bs k b (subst (λ x. slice_get x k ≡ Some b) e at) in
-      unfit_stmt _ s (apart_at once b.stmts b.end i (name.T t) a s apart p q once_read) (stmt_read s (name.T t) refl ∙ ap (nat_le 1) r);
+      unfit_stmt (record { name = name.T t; word = a }) s (apart_at once b.stmts b.end i (name.T t) a s apart p q once_read) ((stmt_read s (name.T t) refl).is ∙ ap (nat_le 1) r);
   before_end = λ k i t b a at p q r o.
       let once_read = still_once once bs h t (subst (λ x. reads_of x (name.T t) ≡ 1) e o) in
       let apart = block_apart once bs k b (subst (λ x. slice_get x k ≡ Some b) e at) in
-      unfit_end _ b.end (apart_end once b.stmts b.end i (name.T t) a apart p q once_read) (end_read b.end (name.T t) refl ∙ ap (nat_le 1) r);
+      unfit_end (record { name = name.T t; word = a }) b.end (apart_end once b.stmts b.end i (name.T t) a apart p q once_read) ((end_read b.end (name.T t) refl).is ∙ ap (nat_le 1) r);
 }

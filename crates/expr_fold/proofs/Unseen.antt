@@ -31,7 +31,7 @@ use Rattle.expr_fold.specs.Counts.{count_in_word, reads_of_stmt, reads_of_end, r
 use Rattle.expr_fold.specs.Moved.{Rest, first_with, one_more, placed_or, set_before, stmt_before, moved}
 use Rattle.expr_fold.proofs.Named.{same_true, set_here, set_there, true_or_false, not_both, not_true}
 use Rattle.expr_fold.proofs.Placing.{word_placed, cond_placed}
-use Rattle.expr_fold.proofs.Weighing.{word_read}
+use Rattle.expr_fold.proofs.Weighing.{IsSome, word_read}
 use Rattle.expr_fold.proofs.Keeping.{IsRuled, moved_ruled}
 use Rattle.expr_fold.proofs.Moving.{Bounded, NoRegisters, Loses, set_cases, first_cases, first_moves, first_counted, stmt_loses, stmt_read, end_read, moved_loses, moved_bounded, bounded_rest}
 
@@ -106,13 +106,13 @@ unread : (m n : Name) (reads : NameSet) (b : Bool) → same_name m n ≡ b → r
 unread m n reads true e f t = absurd (not_both (reads n) t (ap reads (sym (same_true m n e)) ∙ f))
 unread m n reads false e f t = refl
 
-none_counted : (k : ℕ) → k ≡ 0 → nat_le 1 k ≡ false
-none_counted k e = ap (nat_le 1) e
+none_tested : (b : Bool) (k : ℕ) → IsSome b k → k ≡ 0 → b ≡ false
+none_tested b k h e = h.is ∙ ap (nat_le 1) e
 
 reads_but : (m : Name) → is_register m ≡ false → (ss : List Stmt) (e : BlockEnd) → reads_of_rest ss e m ≡ 0 → ReadsWithin (but m) ss e
-reads_but m f [] e z = λ n t. unread m n (end_reads e) (same_name m n) refl (end_read e m f ∙ none_counted _ z) t
+reads_but m f [] e z = λ n t. unread m n (end_reads e) (same_name m n) refl (none_tested (end_reads e m) (reads_of_end e m) (end_read e m f) z) t
 reads_but m f (s ∷ ss) e z =
-    (λ n t. unread m n (stmt_reads s) (same_name m n) refl (stmt_read s m f ∙ none_counted _ (omega (arith, z))) t, reads_but m f ss e (omega (arith, z)))
+    (λ n t. unread m n (stmt_reads s) (same_name m n) refl (none_tested (stmt_reads s m) (reads_of_stmt s m) (stmt_read s m f) (omega (arith, z))) t, reads_but m f ss e (omega (arith, z)))
 
 -- a name that isn't seen is another one than each that is
 seen_but : (seen : NameSet) (m : Name) → seen m ≡ false → Within seen (but m)
@@ -137,24 +137,20 @@ arrives_self seen (To n w) = (w, refl, alike_self seen w)
 set_but : (m : Name) (x : ℕ) (w : World) → Alike (but m) (set_word m x w) w
 set_but m x w = record { names = λ n t. sym (set_there w.names m x n (not_true (same_name m n) t)); mem = refl; pages = refl; left = refl; calls = refl }
 
-no_more : (q k r : ℕ) → q + 1 ≡ r + k → k + r ≤ 1 → q ≡ 0
-no_more q k r h l = omega (arith, h, l)
-
-none_in : (k r : ℕ) → 1 ≤ r → k + r ≤ 1 → k ≡ 0
-none_in k r h l = omega (arith, h, l)
-
 -- A name is set, and its word put in place in the rest: where nobody sees it, it needn't be set.
 set_unseen : (d : Delayed) (seen : NameSet) (x : ℕ) (w : World) (ss : List Stmt) (e : BlockEnd) (q : Rest) → IsTrue (is_flow_target d.name) → is_register d.name ≡ false → seen d.name ≡ false → word_of d.word w.names ≡ Some x → x < 2 ^ 32
     → count_in_word d.word d.name + reads_of_rest ss e d.name ≤ 1 → IsTrue (are_flow_stmts q.0) → IsWorld w → first_with d ss e ≡ Some q → ArrivesAlike (λ k. seen) (leads ss e (set_word d.name x w)) (leads q.0 q.1 w)
 set_unseen d seen x w ss e q t f u v small l rule iw h =
     let m = d.name in
     let v1 = set_word m x w in
-    let none : word_reads d.word m ≡ false = word_read m d.word ∙ none_counted _ (none_in _ _ (first_counted d f ss e q h) l) in
+    let some = first_counted d f ss e q h in
+    let none : word_reads d.word m ≡ false = none_tested (word_reads d.word m) (count_in_word d.word m) (word_read m d.word) (omega (arith, some, l)) in
     let held : word_of d.word v1.names ≡ Some (v1.names m) = value_stays m d.word x w v none ∙ ap (λ y. Some y) (sym (set_here w.names m x m t (same_self m))) in
     let moves = subst (λ b. reads_of_rest q.0 q.1 m + cond b 1 0 ≡ reads_of_rest ss e m + count_in_word d.word m) (same_self m) (first_moves d f ss e q h (omega (arith, l)) m) in
+    let gone : reads_of_rest q.0 q.1 m ≡ 0 = omega (arith, moves, l) in
     subst (λ a. ArrivesAlike (λ k. seen) a (leads q.0 q.1 w)) (first_same d v1 held ss e q h)
     (arrives_less (but m) seen (seen_but seen m u) (leads q.0 q.1 v1) (leads q.0 q.1 w)
-    (leads_alike (but m) q.0 q.1 (reads_but m f q.0 q.1 (no_more _ _ _ moves l)) rule v1 w (set_stays w m x iw small) iw (set_but m x w)))
+    (leads_alike (but m) q.0 q.1 (reads_but m f q.0 q.1 gone) rule v1 w (set_stays w m x iw small) iw (set_but m x w)))
 
 -- ---- statements
 
@@ -193,20 +189,14 @@ set_leads once seen regs d ss e r t rule b hid h =
     arrives_twice seen seen seen (λ n j. j) (λ n j. j) (leads ss e (set_word d.name x w)) (leads r.0 r.1 (set_word d.name x w)) (leads q.0 q.1 w) (h (set_word d.name x w) (set_stays w d.name x iw small))
     (set_unseen d seen x w r.0 r.1 q k.0 (regs d.name o) (hid o q p) v small (b d.name o) u iw p))) rule
 
-less_step : (a b c x k : ℕ) → c + x ≡ k + b → b < a → c < k + a
-less_step a b c x k h l = omega (arith, h, l)
-
-placed_less : (a b c k x : ℕ) → c + 1 ≡ b + k → b + x ≡ a → c < k + a
-placed_less a b c k x h l = omega (arith, h, l)
-
 hidden_rest : (once seen : NameSet) → NoRegisters once → (s : Stmt) (ss : List Stmt) (e : BlockEnd) (r : Rest) → Bounded once r.0 r.1 → Hidden once seen (s ∷ ss) e (stmt_before once s r) → Hidden once seen ss e r
-hidden_rest once seen regs s ss e r b h n t l = let k = stmt_loses once regs s r b n in h n t (less_step _ _ _ _ _ k.1 l)
+hidden_rest once seen regs s ss e r b h n t l = let k = stmt_loses once regs s r b n in let x = k.is in h n t (omega (arith, x, l))
 
 bounded_more : (once : NameSet) (s : Stmt) (ss : List Stmt) (e : BlockEnd) (r : Rest) → ((n : Name) → Loses once n (reads_of_rest ss e n) (reads_of_rest r.0 r.1 n)) → Bounded once (s ∷ ss) e → Bounded once (s ∷ r.0) r.1
-bounded_more once s ss e r h b n t = let k = h n in let x = k.1 in let y = b n t in omega (arith, x, y)
+bounded_more once s ss e r h b n t = let k = h n in let x = k.is in let y = b n t in omega (arith, x, y)
 
 set_placed : (once : NameSet) (d : Delayed) (r q : Rest) → IsTrue (once d.name) → first_with d r.0 r.1 ≡ Some q → set_before once d r ≡ q
-set_placed once d r q t e = ap (λ b. cond b (placed_or (first_with d r.0 r.1) (one_more (stmt.Set d.name d.word) r)) (one_more (stmt.Set d.name d.word) r)) t ∙ ap (λ o. placed_or o (one_more (stmt.Set d.name d.word) r)) e
+set_placed once d r q t e = ap (λ b. placed_or (cond b (first_with d r.0 r.1) None) (one_more (stmt.Set d.name d.word) r)) t ∙ ap (λ o. placed_or o (one_more (stmt.Set d.name d.word) r)) e
 
 -- the name of a word that is put in place is read less often
 placed_hidden : (once seen : NameSet) → NoRegisters once → (d : Delayed) (ss : List Stmt) (e : BlockEnd) (r q : Rest) → Loses once d.name (reads_of_rest ss e d.name) (reads_of_rest r.0 r.1 d.name) → Bounded once r.0 r.1
@@ -214,7 +204,8 @@ placed_hidden : (once seen : NameSet) → NoRegisters once → (d : Delayed) (ss
 placed_hidden once seen regs d ss e r q k b h t i =
     let m = d.name in
     let moves = subst (λ c. reads_of_rest q.0 q.1 m + cond c 1 0 ≡ reads_of_rest r.0 r.1 m + count_in_word d.word m) (same_self m) (first_moves d (regs m t) r.0 r.1 q i (b m t) m) in
-    h m t (subst (λ x. reads_of_rest x.0 x.1 m < count_in_word d.word m + reads_of_rest ss e m) (sym (set_placed once d r q t i)) (placed_less _ _ _ _ _ moves k.1))
+    let few = k.is in
+    h m t (subst (λ x. reads_of_rest x.0 x.1 m < count_in_word d.word m + reads_of_rest ss e m) (sym (set_placed once d r q t i)) (omega (arith, moves, few)))
 
 pub moved_leads : (once seen : NameSet) → NoRegisters once → (ss : List Stmt) (e : BlockEnd) → Bounded once ss e → IsRuled ss e → Hidden once seen ss e (moved once ss ([], e)) → LeadsSo seen ss e (moved once ss ([], e))
 moved_leads once seen regs [] e b t h = λ w iw. arrives_self seen (leads [] e w)

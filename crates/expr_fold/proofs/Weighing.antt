@@ -32,25 +32,27 @@ cond_counted_at y = count_in_cond_at (c.map-CCond CCond CExpr Counts Counts coun
 
 -- ---- how often names stand there
 
--- p, t and c count a name, the name that is replaced, and the first name again; d is 1 where both are one, and k counts the
--- first name in the word
-abbrev pub IsMoved : ℕ → ℕ → ℕ → ℕ → ℕ → Type 0
-IsMoved p t c d k = p + t * d ≡ c + t * k
+-- A name stands c times in a Word, and p times with a word in the place of another one that stands there t times; d is 1
+-- where both are one, and the first name stands k times in the word.
+pub record IsMoved (p t c d k : ℕ) : Type 0 where
+  pub is : p + t * d ≡ c + t * k
 
 pub moved_two : (p q t s c b d k : ℕ) → IsMoved p t c d k → IsMoved q s b d k → IsMoved (p + q) (t + s) (c + b) d k
 moved_two p q t s c b d k h g =
     let x = add-mul t s d in
     let y = add-mul t s k in
-    omega (arith, x, y, h, g)
+    let i = h.is in
+    let j = g.is in
+    record { is = omega (arith, x, y, i, j) }
 
 moved_none : (d k : ℕ) → IsMoved 0 0 0 d k
-moved_none d k = omega arith
+moved_none d k = record { is = omega arith }
 
 moved_here : (d k : ℕ) → IsMoved k 1 d d k
-moved_here d k = omega arith
+moved_here d k = record { is = omega arith }
 
 moved_there : (c d k : ℕ) → IsMoved c 0 c d k
-moved_there c d k = omega arith
+moved_there c d k = record { is = omega arith }
 
 module _ (d : Delayed) (n : Name) where
   abbrev pub CountsWord : CExpr → Type 0
@@ -105,29 +107,33 @@ module _ (d : Delayed) (n : Name) where
 one_of_sum : (x y : ℕ) → (nat_le 1 x || nat_le 1 y) ≡ nat_le 1 (x + y)
 one_of_sum x y = grind arith
 
-pub or_counted : (a b : Bool) (x y : ℕ) → a ≡ nat_le 1 x → b ≡ nat_le 1 y → (a || b) ≡ nat_le 1 (x + y)
-or_counted a b x y h g = ap (λ z. z || b) h ∙ ap (λ z. nat_le 1 x || z) g ∙ one_of_sum x y
+-- a test whether a number is 1 at least
+pub record IsSome (b : Bool) (k : ℕ) : Type 0 where
+  pub is : b ≡ nat_le 1 k
 
-one_counted : (b : Bool) → b ≡ nat_le 1 (cond b 1 0)
-one_counted true = refl
-one_counted false = refl
+pub or_counted : (a b : Bool) (x y : ℕ) → IsSome a x → IsSome b y → IsSome (a || b) (x + y)
+or_counted a b x y h g = record { is = ap (λ z. z || b) h.is ∙ ap (λ z. nat_le 1 x || z) g.is ∙ one_of_sum x y }
+
+one_counted : (b : Bool) → IsSome b (cond b 1 0)
+one_counted true = record { is = refl }
+one_counted false = record { is = refl }
 
 module _ (n : Name) where
   abbrev pub ReadsWord : CExpr → Type 0
-  ReadsWord a = word_reads a n ≡ nat_le 1 (count_in_word a n)
+  ReadsWord a = IsSome (word_reads a n) (count_in_word a n)
 
   abbrev pub ReadsCond : CCond → Type 0
-  ReadsCond t = cond_reads t n ≡ nat_le 1 (count_in_cond t n)
+  ReadsCond t = IsSome (cond_reads t n) (count_in_cond t n)
 
-  read_word : (y : CExpr-F CCond CExpr) → word_reads_at (e.map-CExpr CCond CExpr NameSet NameSet cond_reads word_reads y) n ≡ nat_le 1 (counted_at y n) → ReadsWord (roll-CExpr y)
-  read_word y h = ap (λ f. f n) (word_reads_layer y) ∙ h ∙ ap (λ f. nat_le 1 (f n)) (sym (count_layer y))
+  read_word : (y : CExpr-F CCond CExpr) → IsSome (word_reads_at (e.map-CExpr CCond CExpr NameSet NameSet cond_reads word_reads y) n) (counted_at y n) → ReadsWord (roll-CExpr y)
+  read_word y h = record { is = ap (λ f. f n) (word_reads_layer y) ∙ h.is ∙ ap (λ f. nat_le 1 (f n)) (sym (count_layer y)) }
 
-  read_cond : (y : CCond-F CCond CExpr) → cond_reads_at (c.map-CCond CCond CExpr NameSet NameSet cond_reads word_reads y) n ≡ nat_le 1 (cond_counted_at y n) → ReadsCond (roll-CCond y)
-  read_cond y h = ap (λ f. f n) (cond_reads_layer y) ∙ h ∙ ap (λ f. nat_le 1 (f n)) (sym (cond_count_layer y))
+  read_cond : (y : CCond-F CCond CExpr) → IsSome (cond_reads_at (c.map-CCond CCond CExpr NameSet NameSet cond_reads word_reads y) n) (cond_counted_at y n) → ReadsCond (roll-CCond y)
+  read_cond y h = record { is = ap (λ f. f n) (cond_reads_layer y) ∙ h.is ∙ ap (λ f. nat_le 1 (f n)) (sym (cond_count_layer y)) }
 
   read_cases : WordCases ReadsWord ReadsCond
   read_cases = record {
-    num = λ x. read_word (CExpr-F.Num x) refl;
+    num = λ x. read_word (CExpr-F.Num x) (record { is = refl });
     name = λ m. read_word (CExpr-F.Name m) (one_counted (same_name m n));
     not_word = λ a ha. read_word (CExpr-F.«CExpr::Not» a) ha;
     bin = λ op a b ha hb. read_word (CExpr-F.Bin op a b) (or_counted _ _ _ _ ha hb);
@@ -148,12 +154,6 @@ module _ (n : Name) where
   cond_read t = every_cond read_cases t
 
 -- ---- depths
-
-max_grows : (a b x y : ℕ) → a ≤ x → b ≤ y → max a b ≤ max x y
-max_grows a b x y h g = omega (arith, h, g)
-
-one_deeper : (a x : ℕ) → a ≤ x → a + 1 ≤ x + 1
-one_deeper a x h = omega (arith, h)
 
 module _ (p q : List Delayed) (deeper : (n : Name) → word_depth (stands_for p n) ≤ word_depth (stands_for q n)) where
   abbrev pub GrowsWord : CExpr → Type 0
@@ -189,16 +189,16 @@ module _ (p q : List Delayed) (deeper : (n : Name) → word_depth (stands_for p 
   grow_cases = record {
     num = λ n. same_word (CExpr-F.Num n) (λ r. placed_word_layer r (CExpr-F.Num n)) (omega arith);
     name = λ n. subst (λ x. word_depth x ≤ word_depth (placed_word q (roll-CExpr (CExpr-F.Name n)))) (sym (placed_word_layer p (CExpr-F.Name n))) (subst (λ x. word_depth (stands_for p n) ≤ word_depth x) (sym (placed_word_layer q (CExpr-F.Name n))) (deeper n));
-    not_word = λ a ha. same_word (CExpr-F.«CExpr::Not» a) (λ r. placed_word_layer r (CExpr-F.«CExpr::Not» a)) (one_deeper _ _ ha);
-    bin = λ op a b ha hb. same_word (CExpr-F.Bin op a b) (λ r. placed_word_layer r (CExpr-F.Bin op a b)) (one_deeper _ _ (max_grows _ _ _ _ ha hb));
-    fn1 = λ g a ha. same_word (CExpr-F.Fn1 g a) (λ r. placed_word_layer r (CExpr-F.Fn1 g a)) (one_deeper _ _ ha);
-    fn2 = λ g a b ha hb. same_word (CExpr-F.Fn2 g a b) (λ r. placed_word_layer r (CExpr-F.Fn2 g a b)) (one_deeper _ _ (max_grows _ _ _ _ ha hb));
-    fn3 = λ g a b x ha hb hx. same_word (CExpr-F.Fn3 g a b x) (λ r. placed_word_layer r (CExpr-F.Fn3 g a b x)) (one_deeper _ _ (max_grows _ _ _ _ ha (max_grows _ _ _ _ hb hx)));
-    pick = λ t a b ht ha hb. same_word (CExpr-F.Pick t a b) (λ r. placed_word_layer r (CExpr-F.Pick t a b)) (one_deeper _ _ (max_grows _ _ _ _ ht (max_grows _ _ _ _ ha hb)));
-    cmp = λ op a b ha hb. same_cond (CCond-F.Cmp op a b) (λ r. placed_cond_layer r (CCond-F.Cmp op a b)) (one_deeper _ _ (max_grows _ _ _ _ ha hb));
-    not_cond = λ t ht. same_cond (CCond-F.«CCond::Not» t) (λ r. placed_cond_layer r (CCond-F.«CCond::Not» t)) (one_deeper _ _ ht);
-    both = λ t u ht hu. same_cond (CCond-F.And t u) (λ r. placed_cond_layer r (CCond-F.And t u)) (one_deeper _ _ (max_grows _ _ _ _ ht hu));
-    either = λ t u ht hu. same_cond (CCond-F.Or t u) (λ r. placed_cond_layer r (CCond-F.Or t u)) (one_deeper _ _ (max_grows _ _ _ _ ht hu));
+    not_word = λ a ha. same_word (CExpr-F.«CExpr::Not» a) (λ r. placed_word_layer r (CExpr-F.«CExpr::Not» a)) (omega (arith, ha));
+    bin = λ op a b ha hb. same_word (CExpr-F.Bin op a b) (λ r. placed_word_layer r (CExpr-F.Bin op a b)) (omega (arith, ha, hb));
+    fn1 = λ g a ha. same_word (CExpr-F.Fn1 g a) (λ r. placed_word_layer r (CExpr-F.Fn1 g a)) (omega (arith, ha));
+    fn2 = λ g a b ha hb. same_word (CExpr-F.Fn2 g a b) (λ r. placed_word_layer r (CExpr-F.Fn2 g a b)) (omega (arith, ha, hb));
+    fn3 = λ g a b x ha hb hx. same_word (CExpr-F.Fn3 g a b x) (λ r. placed_word_layer r (CExpr-F.Fn3 g a b x)) (omega (arith, ha, hb, hx));
+    pick = λ t a b ht ha hb. same_word (CExpr-F.Pick t a b) (λ r. placed_word_layer r (CExpr-F.Pick t a b)) (omega (arith, ht, ha, hb));
+    cmp = λ op a b ha hb. same_cond (CCond-F.Cmp op a b) (λ r. placed_cond_layer r (CCond-F.Cmp op a b)) (omega (arith, ha, hb));
+    not_cond = λ t ht. same_cond (CCond-F.«CCond::Not» t) (λ r. placed_cond_layer r (CCond-F.«CCond::Not» t)) (omega (arith, ht));
+    both = λ t u ht hu. same_cond (CCond-F.And t u) (λ r. placed_cond_layer r (CCond-F.And t u)) (omega (arith, ht, hu));
+    either = λ t u ht hu. same_cond (CCond-F.Or t u) (λ r. placed_cond_layer r (CCond-F.Or t u)) (omega (arith, ht, hu));
   }
 
   pub word_grows : (a : CExpr) → GrowsWord a
@@ -231,19 +231,16 @@ placed_none a = every_word placed_none_cases a
 depth_by : (y : CExpr-F CCond CExpr) → 1 ≤ word_depth_at (e.map-CExpr CCond CExpr ℕ ℕ cond_depth word_depth y) → 1 ≤ word_depth (roll-CExpr y)
 depth_by y h = subst (λ i. 1 ≤ i) (sym (word_depth_layer y)) h
 
-one_more : (a : ℕ) → 1 ≤ a + 1
-one_more a = omega arith
-
 depth_cases : WordCases (λ a. 1 ≤ word_depth a) (λ t. Unit {0})
 depth_cases = record {
   num = λ n. depth_by (CExpr-F.Num n) (omega arith);
   name = λ n. depth_by (CExpr-F.Name n) (omega arith);
-  not_word = λ a ha. depth_by (CExpr-F.«CExpr::Not» a) (one_more _);
-  bin = λ op a b ha hb. depth_by (CExpr-F.Bin op a b) (one_more _);
-  fn1 = λ g a ha. depth_by (CExpr-F.Fn1 g a) (one_more _);
-  fn2 = λ g a b ha hb. depth_by (CExpr-F.Fn2 g a b) (one_more _);
-  fn3 = λ g a b x ha hb hx. depth_by (CExpr-F.Fn3 g a b x) (one_more _);
-  pick = λ t a b ht ha hb. depth_by (CExpr-F.Pick t a b) (one_more _);
+  not_word = λ a ha. depth_by (CExpr-F.«CExpr::Not» a) (omega arith);
+  bin = λ op a b ha hb. depth_by (CExpr-F.Bin op a b) (omega arith);
+  fn1 = λ g a ha. depth_by (CExpr-F.Fn1 g a) (omega arith);
+  fn2 = λ g a b ha hb. depth_by (CExpr-F.Fn2 g a b) (omega arith);
+  fn3 = λ g a b x ha hb hx. depth_by (CExpr-F.Fn3 g a b x) (omega arith);
+  pick = λ t a b ht ha hb. depth_by (CExpr-F.Pick t a b) (omega arith);
   cmp = λ op a b ha hb. tt;
   not_cond = λ t ht. tt;
   both = λ t u ht hu. tt;
