@@ -18,9 +18,7 @@ use Rattle.c_syntax.specs.declared.syntax.CExpr.TheVariants as word
 use Rattle.c_syntax.specs.declared.syntax.CCond as conds
 use Rattle.c_syntax.specs.declared.syntax.CCond.TheVariants as test
 use Rattle.c_syntax.specs.declared.syntax.CCond.{CCond, CCond-F, roll-CCond}
-use Rattle.dream_words.specs.declared.machine.Width.{Width}
 use Rattle.micro_ir.specs.declared.flow.Stmt.{Stmt}
-use Rattle.micro_ir.specs.declared.flow.Stmt.TheVariants as stmt
 use Rattle.micro_ir.specs.declared.flow.End.{End as BlockEnd}
 use Rattle.micro_ir.specs.declared.flow.Block.{Block}
 use Rattle.flow_passes.specs.Uses.{same_name}
@@ -157,10 +155,6 @@ notes_other m x h = record { of = λ b g. counted_same x b (λ n. b n + cond (sa
   apart true k f = absurd (f refl)
   apart false k f = omega arith
 
--- the reads of a store
-pub notes_store : (width : Width) (a b : CExpr) (s : Stmt) (x y z : Reads) → s ≡ stmt.Store width a b → Notes (count_in_word a) x y → Notes (count_in_word b) y z → Notes (reads_of_stmt s) x z
-notes_store width a b s x y z e p q = subst (λ (k : Stmt). Notes (reads_of_stmt k) x z) (sym e) (notes_two (count_in_word a) (count_in_word b) x y z p q)
-
 -- ---- lists
 
 -- What is noted of the rest of some statements is noted of all.
@@ -172,7 +166,7 @@ rest_noted ss e i s first x y l at n h z m =
     h z (subst (λ r. Notes (reads_of_rest r e) x z) (sym (one_dropped ss i s l at)) (notes_two (reads_of_stmt s) (reads_of_rest (drop (i + 1) ss) e) x y z n m))
   where
     one_dropped : (ss : List Stmt) (i : ℕ) (s : Stmt) → i < length ss → s ≡ get_or ss i s → drop i ss ≡ s ∷ drop (i + 1) ss
-    one_dropped ss i s l at = drop-cons ss i s l ∙ ap (λ x. x ∷ drop (suc i) ss) (sym at) ∙ ap (λ j. s ∷ drop j ss) (omega arith)
+    one_dropped ss i s l at = drop-cons ss i s l ∙ ap (λ x. x ∷ drop (suc i) ss) (sym at) ∙ ap (λ j. s ∷ drop j ss) (let e : suc i ≡ i + 1 = omega arith in e)
 
 pub end_noted : (ss : List Stmt) (e : BlockEnd) (i : ℕ) (first x y : Reads) → length ss ≤ i → Notes (reads_of_end e) x y → NotesRest ss e i first x → Notes (reads_of_rest ss e) first y
 end_noted ss e i first x y l n h = h y (subst (λ r. Notes (reads_of_rest r e) x y) (sym (drop_of_length-le ss l)) n)
@@ -189,7 +183,7 @@ block_noted bs i b x y l at n h z m =
     h z (subst (λ r. Notes (reads_of r) x z) (sym (one_dropped bs i b l at)) (notes_two (reads_of_rest b.stmts b.end) (reads_of (drop (i + 1) bs)) x y z n m))
   where
     one_dropped : (bs : List Block) (i : ℕ) (b : Block) → i < length bs → b ≡ get_or bs i b → drop i bs ≡ b ∷ drop (i + 1) bs
-    one_dropped bs i b l at = drop-cons bs i b l ∙ ap (λ x. x ∷ drop (suc i) bs) (sym at) ∙ ap (λ j. b ∷ drop j bs) (omega arith)
+    one_dropped bs i b l at = drop-cons bs i b l ∙ ap (λ x. x ∷ drop (suc i) bs) (sym at) ∙ ap (λ j. b ∷ drop j bs) (let e : suc i ≡ i + 1 = omega arith in e)
 
 pub all_noted : (bs : List Block) (i : ℕ) (x : Reads) → length bs ≤ i → CountsRest bs i x → Counted x (reads_of bs)
 all_noted bs i x l h = h x (subst (λ r. Notes (reads_of r) x x) (sym (drop_of_length-le bs l)) (nothing_more x))

@@ -15,26 +15,27 @@ use Rattle.expr_fold.specs.Placed.{placed_word, placed_cond, placed_stmt, placed
 use Rattle.expr_fold.specs.Fits.{word_fits, cond_fits, stmt_fits}
 use Rattle.expr_fold.specs.Ends.{end_fits}
 use Rattle.expr_fold.specs.Counts.{count_in_word, count_in_cond, reads_of_stmt, reads_of_end, reads_of_rest}
-use Rattle.expr_fold.specs.Moved.{Rest, stmt_with, end_with, with_end, with_first, first_with, one_more, placed_or, once_with, set_before, stmt_before, moved}
+use Rattle.expr_fold.specs.Moved.{Rest, stmt_with, end_with, with_end, with_first, first_with, one_more, placed_or, set_before, stmt_before, moved}
 use Rattle.expr_fold.proofs.Named.{same_true, and_true, not_both}
 use Rattle.expr_fold.proofs.Weighing.{IsMoved, IsSome, moved_two, word_counts, cond_counts, or_counted, word_read, cond_read, placed_deeper, word_grows, cond_grows, deeper_in_place}
 
 -- ---- cases
 
 module _ (once : NameSet) (d : Delayed) (r : Rest) (P : Rest → Type 0) where
-  placed_cases : (o : Option Rest) → (o ≡ None → P (one_more (stmt.Set d.name d.word) r)) → ((q : Rest) → o ≡ Some q → P q) → P (placed_or o (one_more (stmt.Set d.name d.word) r))
-  placed_cases None f g = f refl
-  placed_cases (Some q) f g = g q refl
+  placed_cases : (o : Option Rest) → IsTrue (once d.name) → first_with d r.0 r.1 ≡ o → (first_with d r.0 r.1 ≡ None → P (one_more (stmt.Set d.name d.word) r)) → ((q : Rest) → IsTrue (once d.name) → first_with d r.0 r.1 ≡ Some q → P q)
+      → P (placed_or o (one_more (stmt.Set d.name d.word) r))
+  placed_cases None t e f g = f e
+  placed_cases (Some q) t e f g = g q t e
 
-  once_cases : (b : Bool) (o : Option Rest) → once d.name ≡ b → first_with d r.0 r.1 ≡ o → (once d.name ≡ false → P (one_more (stmt.Set d.name d.word) r)) → (first_with d r.0 r.1 ≡ None → P (one_more (stmt.Set d.name d.word) r))
-      → ((q : Rest) → IsTrue (once d.name) → first_with d r.0 r.1 ≡ Some q → P q) → P (placed_or (cond b o None) (one_more (stmt.Set d.name d.word) r))
-  once_cases true o t e n f g = placed_cases o (λ i. f (e ∙ i)) (λ q i. g q t (e ∙ i))
-  once_cases false o t e n f g = n t
+  once_cases : (b : Bool) → once d.name ≡ b → (once d.name ≡ false → P (one_more (stmt.Set d.name d.word) r)) → (first_with d r.0 r.1 ≡ None → P (one_more (stmt.Set d.name d.word) r))
+      → ((q : Rest) → IsTrue (once d.name) → first_with d r.0 r.1 ≡ Some q → P q) → P (cond b (placed_or (first_with d r.0 r.1) (one_more (stmt.Set d.name d.word) r)) (one_more (stmt.Set d.name d.word) r))
+  once_cases true t n f g = placed_cases (first_with d r.0 r.1) t refl f g
+  once_cases false t n f g = n t
 
   -- a set stays where its name isn't among some, or can't be put in place; else its word is put in place
   pub set_cases : (once d.name ≡ false → P (one_more (stmt.Set d.name d.word) r)) → (first_with d r.0 r.1 ≡ None → P (one_more (stmt.Set d.name d.word) r)) → ((q : Rest) → IsTrue (once d.name) → first_with d r.0 r.1 ≡ Some q → P q)
       → P (set_before once d r)
-  set_cases n f g = once_cases (once d.name) (first_with d r.0 r.1) refl refl n f g
+  set_cases n f g = once_cases (once d.name) refl n f g
 
 -- what a choice gives
 chosen_is : {A : Type 0} (a b : Bool) (x y : A) → cond (a && b) (Some x) None ≡ Some y → IsTrue a × IsTrue b × (x ≡ y)
@@ -163,7 +164,7 @@ loses_more once n k a b c h g =
     let y = g.is in
     record { lost = h.lost + g.lost; is = omega (arith, x, y); only = λ f. let x = h.only f in let y = g.only f in omega (arith, x, y) }
 
-not_same : (once : NameSet) (m n : Name) (b : Bool) → same_name m n ≡ b → IsTrue (once m) → once n ≡ false → cond b 1 0 ≡ 0
+not_same : (once : NameSet) (m n : Name) (b : Bool) → same_name m n ≡ b → IsTrue (once m) → once n ≡ false → ◌≡◌ {A = ℕ} (cond b 1 0) 0
 not_same once m n true e t f = absurd (not_both (once n) (ap once (sym (same_true m n e)) ∙ t) f)
 not_same once m n false e t f = refl
 
@@ -182,7 +183,7 @@ stmt_loses once regs (stmt.Store width a c) r b n = loses_none once n _
 stmt_loses once regs (stmt.Ext a) r b n = loses_none once n _
 stmt_loses once regs (stmt.Trap vector a) r b n = loses_none once n _
 
-bounded_rest : (once : NameSet) (s : Stmt) (ss : List Stmt) (e : BlockEnd) → Bounded once (s ∷ ss) e → Bounded once ss e
+pub bounded_rest : (once : NameSet) (s : Stmt) (ss : List Stmt) (e : BlockEnd) → Bounded once (s ∷ ss) e → Bounded once ss e
 bounded_rest once s ss e b n t = let x = b n t in omega (arith, x)
 
 less_bounded : (once : NameSet) (ss : List Stmt) (e : BlockEnd) (r : Rest) → ((n : Name) → Loses once n (reads_of_rest ss e n) (reads_of_rest r.0 r.1 n)) → Bounded once ss e → Bounded once r.0 r.1

@@ -196,7 +196,7 @@ bounded_more : (once : NameSet) (s : Stmt) (ss : List Stmt) (e : BlockEnd) (r : 
 bounded_more once s ss e r h b n t = let k = h n in let x = k.is in let y = b n t in omega (arith, x, y)
 
 set_placed : (once : NameSet) (d : Delayed) (r q : Rest) → IsTrue (once d.name) → first_with d r.0 r.1 ≡ Some q → set_before once d r ≡ q
-set_placed once d r q t e = ap (λ b. placed_or (cond b (first_with d r.0 r.1) None) (one_more (stmt.Set d.name d.word) r)) t ∙ ap (λ o. placed_or o (one_more (stmt.Set d.name d.word) r)) e
+set_placed once d r q t e = ap (λ b. cond b (placed_or (first_with d r.0 r.1) (one_more (stmt.Set d.name d.word) r)) (one_more (stmt.Set d.name d.word) r)) t ∙ ap (λ o. placed_or o (one_more (stmt.Set d.name d.word) r)) e
 
 -- the name of a word that is put in place is read less often
 placed_hidden : (once seen : NameSet) → NoRegisters once → (d : Delayed) (ss : List Stmt) (e : BlockEnd) (r q : Rest) → Loses once d.name (reads_of_rest ss e d.name) (reads_of_rest r.0 r.1 d.name) → Bounded once r.0 r.1

@@ -1,14 +1,12 @@
 -- What the code makes of blocks from their ends on.
-use Rattle.std.proofs.Common.{◌≡◌, ℕ, Bool, true, false, cond, List, [], ◌∷◌, ◌++◌, Option, Some, None, reverse, map, refl, sym, ap, ◌∙◌}
+use Rattle.std.proofs.Common.{◌≡◌, ℕ, List, [], ◌∷◌, ◌++◌, reverse, map, refl, sym, ap, ◌∙◌}
 use Rattle.std.proofs.lemmas.List.{append_assoc, reverse-append}
 use Rattle.micro_ir.specs.declared.flow.Stmt.{Stmt}
-use Rattle.micro_ir.specs.declared.flow.Stmt.TheVariants as stmt
 use Rattle.micro_ir.specs.declared.flow.End.{End as BlockEnd}
 use Rattle.micro_ir.specs.declared.flow.Block.{Block}
 use Rattle.flow_passes.specs.Uses.{NameSet}
-use Rattle.expr_fold.specs.declared.delayed.Delayed.{Delayed}
 use Rattle.expr_fold.specs.declared.moves.Tail.{Tail}
-use Rattle.expr_fold.specs.Moved.{Rest, rest_of, stmt_with, end_with, with_end, with_first, first_with, one_more, placed_or, once_with, set_before, stmt_before, moved, moved_block}
+use Rattle.expr_fold.specs.Moved.{Rest, rest_of, stmt_before, moved, moved_block}
 
 -- ---- a block
 
@@ -32,45 +30,6 @@ block_by n ss e = record { at = n; stmts = ss; end = e }
 
 pub block_is : (once : NameSet) (b c : Block) (r : Rest) → c.at ≡ b.at → (c.stmts, c.end) ≡ r → r ≡ moved once b.stmts ([], b.end) → c ≡ moved_block once b
 block_is once b c r a e m = ap (λ n. block_by n c.stmts c.end) a ∙ ap (λ (x : Rest). block_by b.at x.0 x.1) (e ∙ m)
-
--- ---- what comes first
-
-place_ended : (d : Delayed) (is : Bool) (o : Option BlockEnd) (e : BlockEnd) → o ≡ cond is (Some e) None → with_end o ≡ cond is (Some ([], e)) None
-place_ended d true o e h = ap with_end h
-place_ended d false o e h = ap with_end h
-
--- in an end
-pub place_end : (d : Delayed) (is : Bool) (old new : Tail) → old.back.items ≡ [] → new.back.items ≡ [] → end_with d old.end ≡ cond is (Some new.end) None → first_with d (rest_of old).0 (rest_of old).1 ≡ cond is (Some (rest_of new)) None
-place_end d is old new a b h =
-    ap (λ x. first_with d (reverse x) old.end) a ∙ place_ended d is (end_with d old.end) new.end h ∙ ap (λ x. cond is (Some (reverse x, new.end)) None) (sym b)
-
-backwards : (less : List Stmt) (s : Stmt) (all : List Stmt) → all ≡ less ++ s ∷ [] → reverse all ≡ s ∷ reverse less
-backwards less s all e = ap reverse e ∙ reverse-append less (s ∷ [])
-
--- in a statement
-pub place_first : (d : Delayed) (old new : Tail) (less : List Stmt) (s t : Stmt) → old.back.items ≡ less ++ s ∷ [] → stmt_with d s ≡ Some t → new.back.items ≡ less ++ t ∷ [] → new.end ≡ old.end → first_with d (rest_of old).0 (rest_of old).1 ≡ Some (rest_of new)
-place_first d old new less s t a h b e =
-    ap (λ x. first_with d x old.end) (backwards less s old.back.items a) ∙ ap (λ o. with_first o (reverse less) old.end) h ∙ ap (λ x. Some (x, old.end)) (sym (backwards less t new.back.items b)) ∙ ap (λ x. Some (reverse new.back.items, x)) (sym e)
-
-pub place_none : (d : Delayed) (old : Tail) (less : List Stmt) (s : Stmt) → old.back.items ≡ less ++ s ∷ [] → stmt_with d s ≡ None → first_with d (rest_of old).0 (rest_of old).1 ≡ None
-place_none d old less s a h = ap (λ x. first_with d x old.end) (backwards less s old.back.items a) ∙ ap (λ o. with_first o (reverse less) old.end) h
-
--- the same statements and end
-pub rest_same : (old new : Tail) (a b : List Stmt) → old.back.items ≡ a → new.back.items ≡ b → b ≡ a → new.end ≡ old.end → rest_of new ≡ rest_of old
-rest_same old new a b p q e f = ap (λ x. (reverse x, new.end)) (q ∙ e ∙ sym p) ∙ ap (λ x. (reverse old.back.items, x)) f
-
--- one statement more
-pub rest_more : (old new : Tail) (s : Stmt) → new.back.items ≡ old.back.items ++ s ∷ [] → new.end ≡ old.end → rest_of new ≡ one_more s (rest_of old)
-rest_more old new s b f = ap (λ x. (x, new.end)) (backwards old.back.items s new.back.items b) ∙ ap (λ x. (s ∷ reverse old.back.items, x)) f
-
--- a set whose word is put in place, and one that stays
-pub set_put : (once : NameSet) (d : Delayed) (is : Bool) (old new : Rest) → once_with once d old ≡ cond is (Some new) None → is ≡ true → new ≡ set_before once d old
-set_put once d true old new h t = sym (ap (λ o. placed_or o (one_more (stmt.Set d.name d.word) old)) h)
-set_put once d false old new h t = absurd (let z : ⊥ = cc in z)
-
-pub set_stays : (once : NameSet) (d : Delayed) (is : Bool) (old new : Rest) → once_with once d old ≡ cond is (Some new) None → is ≡ false → set_before once d old ≡ one_more (stmt.Set d.name d.word) old
-set_stays once d true old new h t = absurd (let z : ⊥ = cc in z)
-set_stays once d false old new h t = ap (λ o. placed_or o (one_more (stmt.Set d.name d.word) old)) h
 
 -- ---- blocks
 

@@ -48,13 +48,9 @@ abbrev pub placed_or : Option Rest → Rest → Rest
 placed_or None r = r
 placed_or (Some q) r = q
 
--- the same where the name is among some
-abbrev pub once_with : NameSet → Delayed → Rest → Option Rest
-once_with once d r = if once d.name then first_with d r.0 r.1 else None
-
 -- A set before the rest: its word is put in place there, where that can be and its name is among some.
 abbrev pub set_before : NameSet → Delayed → Rest → Rest
-set_before once d r = placed_or (once_with once d r) (one_more (stmt.Set d.name d.word) r)
+set_before once d r = if once d.name then placed_or (first_with d r.0 r.1) (one_more (stmt.Set d.name d.word) r) else one_more (stmt.Set d.name d.word) r
 
 -- a statement before the rest
 abbrev pub stmt_before : NameSet → Stmt → Rest → Rest

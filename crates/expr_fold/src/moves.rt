@@ -8,7 +8,7 @@ ghost use Rattle.flow_passes.specs.Keeps.{Keeps};
 ghost use Rattle.expr_fold.specs.Placed.{placed_stmt};
 ghost use Rattle.expr_fold.specs.Fits.{stmt_fits};
 ghost use Rattle.expr_fold.specs.Counted.{once_of};
-ghost use Rattle.expr_fold.specs.Moved.{stmt_with, end_with, first_with, once_with, rest_of, set_before, stmt_before, moved_block};
+ghost use Rattle.expr_fold.specs.Moved.{stmt_with, end_with, first_with, rest_of, set_before, stmt_before, moved_block};
 ghost use Rattle.expr_fold.specs.Direct.{NoneStandsDirectlyBefore};
 
 use crate::blocks::{end_fits, placed_end};
@@ -111,8 +111,7 @@ impl Tail {
         ensures same { IfOk result (λ is. OnFalse is (rest_of self.new ≡ rest_of self.old)) }
     {
         let Some(s) = self.back.pop() else {
-            let placed = self.place_in_end(alloc, d)?;
-            return Ok(placed);
+            return self.place_in_end(alloc, d);
         };
         match stmt_with(alloc, d, &s)? {
             Some(placed) => {
@@ -142,24 +141,6 @@ impl Tail {
         }
     }
 
-    /// Puts a word in the place of its name in what comes first, where the name is a temporary that is read at most once.
-    /// False where that can't be.
-    fn place_once(
-        &mut self,
-        alloc: Global,
-        reads: &Reads,
-        d: &Delayed,
-    ) -> Result<bool, AllocError>
-        ensures placed { IfOk result (λ is. once_with (once_of reads.now) d.now (rest_of self.old) ≡ (if is then Some (rest_of self.new) else None)) }
-        ensures same { IfOk result (λ is. OnFalse is (rest_of self.new ≡ rest_of self.old)) }
-    {
-        if !reads.is_once(d.name) {
-            return Ok(false);
-        }
-        let placed = self.place(alloc, d)?;
-        Ok(placed)
-    }
-
     /// Takes a set that stands before it. Its word is put in place where that can be and the name is read at most once.
     fn take_set(
         &mut self,
@@ -171,7 +152,7 @@ impl Tail {
         ensures { OnOk result (rest_of self.new ≡ set_before (once_of reads.now) (record { name = name; word = word }) (rest_of self.old)) }
     {
         let d = Delayed { name, word };
-        if self.place_once(alloc, reads, &d)? {
+        if reads.is_once(name) && self.place(alloc, &d)? {
             return Ok(());
         }
         let Delayed { name, word } = d;

@@ -1,6 +1,5 @@
-use Rattle.std.proofs.Common.{length, ◌∙◌}
 use Rattle.expr_fold.specs.Counted.{once_of}
-use Rattle.expr_fold.proofs.Walked.{makes_one, makes_all}
+use Rattle.expr_fold.proofs.Walked.{makes_one}
 use Rattle.expr_fold.proofs.moves.moved_blocks.Goals as goal
 
 pub loop-b-preserved : goal.loop-b-preserved
