@@ -98,7 +98,6 @@ notes_and a b c d t x y z h i j p q = cond_layer (CCond-F.And a b) t x z (h ∙ 
 pub notes_or : (a b c d t : CCond) (x y z : Reads) → t ≡ (conds.Or a b) → c ≡ a → d ≡ b → Notes (count_in_cond c) x y → Notes (count_in_cond d) y z → Notes (count_in_cond t) x z
 notes_or a b c d t x y z h i j p q = cond_layer (CCond-F.Or a b) t x z (h ∙ sym (test.rolls-Or a b)) (notes_two (count_in_cond a) (count_in_cond b) x y z (cond_is a c x y i p) (cond_is b d y z j q))
 
-
 -- ---- one temporary
 
 compared : (t q : ℕ) → is_eq (nat_cmp t q) ≡ nat_eq t q
