@@ -126,7 +126,7 @@ takes_into_after s r a p b q c o f g before seen after old rule sees lost x = g 
 
 -- ---- ends
 
-end_rule : (p : List Delayed) (e : BlockEnd) → IsTrue (are_flow_delayed p) → IsTrue (is_flow_end e) → IsTrue (end_fits (placed_end p e)) → IsTrue (is_flow_end (placed_end p e))
+pub end_rule : (p : List Delayed) (e : BlockEnd) → IsTrue (are_flow_delayed p) → IsTrue (is_flow_end e) → IsTrue (end_fits (placed_end p e)) → IsTrue (is_flow_end (placed_end p e))
 end_rule p (end.Go a) r t f = t
 end_rule p (end.Branch c a b) r t f = and_true (cond_has_flow_names (placed_cond p c)) (nat_le (cond_depth (placed_cond p c)) 64) (cond_named p r c (both_true (cond_has_flow_names c) (nat_le (cond_depth c) 64) t).0) f
 end_rule p (end.Switch a cases) r t f =

@@ -32,7 +32,7 @@ step_back new p i d q new' p' e f g h =
     subst (λ x. Waits new p x p') (sym g) (subst (λ y. Waits new p new y) (sym (h ∙ ap (λ y. y ++ d ∷ []) f)) (waits_back new p i d e))
 
 -- a word with others in place is one of a flow, where it fits
-placed_flow : (p : List Delayed) (a word : CExpr) → word ≡ placed_word p a → IsTrue (word_fits word) → IsTrue (are_flow_delayed p) → IsTrue (is_flow_word a) → IsTrue (is_flow_word (placed_word p a))
+pub placed_flow : (p : List Delayed) (a word : CExpr) → word ≡ placed_word p a → IsTrue (word_fits word) → IsTrue (are_flow_delayed p) → IsTrue (is_flow_word a) → IsTrue (is_flow_word (placed_word p a))
 placed_flow p a word e f r t =
     and_true (has_flow_names (placed_word p a)) (nat_le (word_depth (placed_word p a)) 64) (word_named p r a (both_true (has_flow_names a) (nat_le (word_depth a) 64) t).0) (subst (λ y. IsTrue (word_fits y)) e f)
 

@@ -81,7 +81,7 @@ fn statements(
 }
 
 /// An end with delayed words in place.
-fn placed_end(alloc: Global, delayed: &[Delayed], e: &End) -> Result<End, AllocError>
+pub(crate) fn placed_end(alloc: Global, delayed: &[Delayed], e: &End) -> Result<End, AllocError>
     ensures { IfOk result (λ r. r ≡ placed_end delayed.now e.now) }
 {
     match e {
@@ -98,7 +98,7 @@ fn placed_end(alloc: Global, delayed: &[Delayed], e: &End) -> Result<End, AllocE
 }
 
 /// The words of an end aren't too deep.
-fn end_fits(e: &End) -> bool
+pub(crate) fn end_fits(e: &End) -> bool
     ensures { result ≡ end_fits e.now }
 {
     match e {

@@ -20,7 +20,7 @@ const FAR: u32 = 2000;
 const NEAR: usize = 8;
 
 /// Whether a statement reads a name.
-fn stmt_reads(s: &Stmt, n: Name) -> bool
+pub(crate) fn stmt_reads(s: &Stmt, n: Name) -> bool
     ensures { result ≡ stmt_reads s.now n }
 {
     match s {
