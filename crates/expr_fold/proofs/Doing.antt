@@ -29,7 +29,7 @@ use Rattle.expr_fold.specs.Follows.{Lags, Behind, DoesBehind, Sees}
 use Rattle.expr_fold.proofs.Placing.{word_placed}
 use Rattle.expr_fold.proofs.Named.{same_true, set_here, true_or_false, not_both}
 use Rattle.expr_fold.proofs.Layers.{word_step}
-use Rattle.expr_fold.proofs.Lagging.{lag_within, lag_delay, lag_load, lag_moved, lag_answer, same_registers}
+use Rattle.expr_fold.proofs.Lagging.{lag_within, lag_delay, lag_load, lag_into, lag_same, lag_answer, same_registers}
 
 -- ---- worlds
 
@@ -94,51 +94,19 @@ load_behind m width a seen after p w v t r s l =
       record { names = lag_load seen after m (load w.mem at (bytes_of width)) p w.names v t r s.after_it l; mem = refl; pages = refl; left = refl; calls = refl },
     ))
 
--- ---- a load and a set to what was loaded
+-- ---- a load into another name
 
-then_having : (o : Option ℕ) (k : ℕ → Doing) (f : World → Doing) → then_do (having o k) f ≡ having o (λ x. then_do (k x) f)
-then_having None k f = refl
-then_having (Some x) k f = refl
-
-then_allowing : (bad : Option ℕ) (w : World) (d : Doing) (f : World → Doing) → then_do (allowing bad w d) f ≡ allowing bad w (then_do d f)
-then_allowing None w d f = refl
-then_allowing (Some a) w d f = refl
-
--- after two statements is seen what the second sets, and what was seen but what the first sets
-moved_sees : (s : Stmt) (t r : Name) (a : CExpr) (seen between after : NameSet) → ((n : Name) → IsTrue (between n) → IsTrue (same_name t n) ⊎ IsTrue (seen n)) → ((n : Name) → IsTrue (after n) → IsTrue (same_name r n) ⊎ IsTrue (between n)) → after t ≡ false
-    → (n : Name) → IsTrue (after n) → IsTrue (same_name r n) ⊎ (IsTrue (seen n) × (same_name t n ≡ false))
-moved_sees s t r a seen between after f g lost n i = by_case (true_or_false (same_name t n)) (g n i) where
-  by_seen : same_name t n ≡ false → IsTrue (same_name t n) ⊎ IsTrue (seen n) → IsTrue (same_name r n) ⊎ (IsTrue (seen n) × (same_name t n ≡ false))
-  by_seen e (inl h) = absurd (not_both (same_name t n) h e)
-  by_seen e (inr h) = inr (h, e)
-
-  by_case : (same_name t n ≡ true) ⊎ (same_name t n ≡ false) → IsTrue (same_name r n) ⊎ IsTrue (between n) → IsTrue (same_name r n) ⊎ (IsTrue (seen n) × (same_name t n ≡ false))
-  by_case (inl e) h = absurd (not_both (after n) i (ap after (sym (same_true t n e)) ∙ lost))
-  by_case (inr e) (inl h) = inl h
-  by_case (inr e) (inr h) = by_seen e (f n h)
-
--- the register is set to the word that was loaded
-moved_word : (t r : Name) (x : ℕ) (w : World) → IsTrue (is_flow_target t) → stmt_does (stmt.Set r (roll-CExpr (CExpr-F.Name t))) (set_word t x w) ≡ Next (set_word r x (set_word t x w))
-moved_word t r x w g =
-    ap (λ o. having o (λ y. Next (set_word r y (set_word t x w)))) (word_step (CExpr-F.Name t) (with_name w.names t x) ∙ ap (λ y. Some y) (set_here w.names t x t g (same_self t)))
-
-pub moved_behind : (t r : Name) (width : Width) (a : CExpr) (seen between after : NameSet) (p : List Delayed) (w : World) (v : Names) → IsTrue (is_flow_target t) → IsTrue (is_flow_target r)
-    → IsTrue (none_reads (without r (without t p)) r) → Sees (stmt.Load t width a) seen between → Sees (stmt.Set r (roll-CExpr (CExpr-F.Name t))) between after → after t ≡ false → Lags seen p w.names v
-    → DoesBehind after (without r (without t p)) (then_do (stmt_does (stmt.Load t width a) w) (stmt_does (stmt.Set r (roll-CExpr (CExpr-F.Name t))))) (stmt_does (stmt.Load r width (placed_word p a)) (record w { names = v }))
-moved_behind t r width a seen between after p w v gt gr n s1 s2 lost l =
-    let q = without r (without t p) in
-    let set = stmt_does (stmt.Set r (roll-CExpr (CExpr-F.Name t))) in
-    let sees = moved_sees (stmt.Load t width a) t r a seen between after s1.after_it s2.after_it lost in
-    subst (λ d. DoesBehind after q d (stmt_does (stmt.Load r width (placed_word p a)) (record w { names = v }))) (sym (then_having (word_in a w) _ set))
-    (having_behind after q (word_in a w) (word_in (placed_word p a) (record w { names = v })) _ _ (value_lags a seen p w.names v s1.reads l)
-    (λ at. let x = load w.mem at (bytes_of width) in
-    subst (λ d. DoesBehind after q d (allowing (first_bad w.pages.read at (bytes_of width)) (record w { names = v }) (Next (set_word r x (record w { names = v }))))) (sym (then_allowing (first_bad w.pages.read at (bytes_of width)) w (Next (set_word t x w)) set))
-    (allowed_behind after q (first_bad w.pages.read at (bytes_of width)) w v _ _
-    (subst (λ d. DoesBehind after q d (Next (set_word r x (record w { names = v })))) (sym (moved_word t r x w gt)) (
-      set_word r x (record w { names = v }),
+pub into_behind : (t r : Name) (width : Width) (a : CExpr) (seen after : NameSet) (p : List Delayed) (w : World) (v : Names) → IsTrue (is_flow_target t) → IsTrue (is_flow_target r)
+    → IsTrue (none_reads (without r (without t p)) r) → Sees (stmt.Load t width a) seen after → after r ≡ false → Lags seen p w.names v
+    → DoesBehind after (without r (without t p) ++ (record { name = t; word = roll-CExpr (CExpr-F.Name r) }) ∷ []) (stmt_does (stmt.Load t width a) w) (stmt_does (stmt.Load r width (placed_word p a)) (record w { names = v }))
+into_behind t r width a seen after p w v gt gr n s lost l =
+    let q : List Delayed = without r (without t p) ++ (record { name = t; word = roll-CExpr (CExpr-F.Name r) }) ∷ [] in
+    having_behind after q (word_in a w) (word_in (placed_word p a) (record w { names = v })) _ _ (value_lags a seen p w.names v s.reads l)
+    (λ at. allowed_behind after q (first_bad w.pages.read at (bytes_of width)) w v _ _ (
+      set_word r (load w.mem at (bytes_of width)) (record w { names = v }),
       refl,
-      record { names = lag_moved seen after t r x p w.names v gr n sees l; mem = refl; pages = refl; left = refl; calls = refl },
-    )))))
+      record { names = lag_into seen after t r (load w.mem at (bytes_of width)) p w.names v gt gr n s.after_it lost l; mem = refl; pages = refl; left = refl; calls = refl },
+    ))
 
 -- ---- calls
 
@@ -177,3 +145,15 @@ delay_behind m a seen after p w v t s l =
     delayed_by after m a (λ x. without m p ++ (record { name = m; word = placed_word p a }) ∷ []) (word_in a w) w v
     (λ x e. lag_delay seen after m (placed_word p a) x p w.names v t (value_lags a seen p w.names v s.reads l ∙ e) s.after_it l)
     (without m p ++ (record { name = m; word = placed_word p a }) ∷ []) (λ x. refl)
+
+-- a set of a name to the word that it has among the new names
+some_same : (x y : ℕ) → Some x ≡ Some y → x ≡ y
+some_same x y e = cc
+
+pub same_behind : (m : Name) (a : CExpr) (seen after : NameSet) (p : List Delayed) (w : World) (v : Names) → IsTrue (is_flow_target m) → Sees (stmt.Set m a) seen after → placed_word p a ≡ roll-CExpr (CExpr-F.Name m)
+    → Lags seen p w.names v → DoesBehind after (without m p) (stmt_does (stmt.Set m a) w) (Next (record w { names = v }))
+same_behind m a seen after p w v t s e l =
+    delayed_by after m a (λ x. without m p) (word_in a w) w v
+    (λ x f. lag_same seen after m x p w.names v t
+    (some_same (v m) x (sym (ap (λ b. word_of b v) e ∙ word_step (CExpr-F.Name m) v) ∙ value_lags a seen p w.names v s.reads l ∙ f)) s.after_it l)
+    (without m p) (λ x. refl)

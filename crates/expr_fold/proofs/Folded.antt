@@ -28,7 +28,7 @@ use Rattle.flow_passes.proofs.Walking.{going_alike_keeps_runs}
 use Rattle.expr_fold.specs.declared.delayed.Delayed.{Delayed}
 use Rattle.expr_fold.specs.Delayed.{are_flow_delayed}
 use Rattle.expr_fold.specs.Placed.{placed_word, placed_cond, placed_end}
-use Rattle.expr_fold.specs.Follows.{DoesBehind, Follows, Sees, Takes, TakesTwo, Waits, AllSeen, FollowsFirst, IsLost}
+use Rattle.expr_fold.specs.Follows.{DoesBehind, Follows, Sees, Takes, TakesInto, Waits, AllSeen, FollowsFirst, IsLost}
 use Rattle.expr_fold.specs.Folds.{LivesAt, LivesIn, FoldsBlock, FoldsBlocks}
 use Rattle.expr_fold.proofs.Named.{and_true}
 use Rattle.expr_fold.proofs.Placing.{word_named, cond_named}
@@ -97,30 +97,20 @@ follows_more last all i s new p new' p' l e t h seen =
     subst (λ x. IsTrue (are_flow_stmts x) → Follows first next x new' p') (sym (one_taken all i s l e))
     (λ r. let k = rule_less (take i all) s r in t first (live_before_all (drop i all) last) next (take i all) k.1 (sees_each all last seen i s l e) (h seen k.0))
 
--- the statement of a number
-pub stmt_at : (all : List Stmt) (i : ℕ) (s : Stmt) → slice_get all i ≡ Some s → (i < length all) × (s ≡ get_or all i s)
-stmt_at [] i s e = absurd (let z : ⊥ = cc in z)
-stmt_at (x ∷ xs) zero s e = (omega arith, let z : s ≡ x = cc in z)
-stmt_at (x ∷ xs) (suc i) s e = let k = stmt_at xs i s e in (let l = k.0 in omega (arith, l), k.1)
-
 rest_seen : (all : List Stmt) (last : NameSet) (i : ℕ) → AllSeen all last → AllSeen (drop i all) last
 rest_seen all last zero h = h
 rest_seen [] last (suc i) h = h
 rest_seen (x ∷ xs) last (suc i) h = rest_seen xs last i h.1
 
--- two statements more
-pub follows_two : (last : NameSet) (all : List Stmt) (i : ℕ) (s r : Stmt) (t : Name) (new : List Stmt) (p : List Delayed) (new' : List Stmt) (p' : List Delayed) → i < length all → s ≡ get_or all i s
-    → slice_get all (i + 1) ≡ Some r → IsLost last (drop ((i + 1) + 1) all) t → TakesTwo s r t new p new' p' → FollowsFirst last all i new p → FollowsFirst last all ((i + 1) + 1) new' p'
-follows_two last all i s r t new p new' p' l e at lost two h seen =
-    let k = stmt_at all (i + 1) r at in
+-- one more, taken into another name
+pub follows_into : (last : NameSet) (all : List Stmt) (i : ℕ) (s : Stmt) (r : Name) (new : List Stmt) (p : List Delayed) (new' : List Stmt) (p' : List Delayed) → i < length all → s ≡ get_or all i s
+    → IsLost last (drop (i + 1) all) r → TakesInto s r new p new' p' → FollowsFirst last all i new p → FollowsFirst last all (i + 1) new' p'
+follows_into last all i s r new p new' p' l e lost t h seen =
     let first = live_before_all all last in
-    let between = live_before_all (drop (i + 1) all) last in
-    let next = live_before_all (drop ((i + 1) + 1) all) last in
-    subst (λ x. IsTrue (are_flow_stmts x) → Follows first next x new' p') (sym (one_taken all (i + 1) r k.0 k.1 ∙ ap (λ x. x ++ r ∷ []) (one_taken all i s l e)))
-    (λ rule.
-    let a = rule_less (take i all ++ s ∷ []) r rule in
-    let b = rule_less (take i all) s a.0 in
-    two first (live_before_all (drop i all) last) between next (take i all) b.1 a.1 (sees_each all last seen i s l e) (sees_each all last seen (i + 1) r k.0 k.1) (lost (rest_seen all last ((i + 1) + 1) seen)) (h seen b.0))
+    let next = live_before_all (drop (i + 1) all) last in
+    subst (λ x. IsTrue (are_flow_stmts x) → Follows first next x new' p') (sym (one_taken all i s l e))
+    (λ rule. let k = rule_less (take i all) s rule in
+    t first (live_before_all (drop i all) last) next (take i all) k.1 (sees_each all last seen i s l e) (lost (rest_seen all last (i + 1) seen)) (h seen k.0))
 
 -- all statements
 pub follows_all : (last : NameSet) (all : List Stmt) (i : ℕ) (new : List Stmt) (p : List Delayed) → length all ≤ i → i ≤ length all → FollowsFirst last all i new p → FollowsFirst last all (length all) new p
@@ -131,12 +121,12 @@ pub takes_between : (s : Stmt) (a : List Stmt) (p : List Delayed) (b : List Stmt
     → Waits a p b q → Takes s b q c r → Waits c r d t → Takes s a p d t
 takes_between s a p b q c r d t f g h before seen after old rule sees x = h before after (old ++ s ∷ []) (g before seen after old rule sees (f before seen old x))
 
-pub takes_two_after : (s r : Stmt) (t : Name) (a : List Stmt) (p : List Delayed) (b : List Stmt) (q : List Delayed) (c : List Stmt) (o : List Delayed) → Waits a p b q → TakesTwo s r t b q c o → TakesTwo s r t a p c o
-takes_two_after s r t a p b q c o f g before seen between after old rs rr s1 s2 lost x = g before seen between after old rs rr s1 s2 lost (f before seen old x)
+pub takes_into_after : (s : Stmt) (r : Name) (a : List Stmt) (p : List Delayed) (b : List Stmt) (q : List Delayed) (c : List Stmt) (o : List Delayed) → Waits a p b q → TakesInto s r b q c o → TakesInto s r a p c o
+takes_into_after s r a p b q c o f g before seen after old rule sees lost x = g before seen after old rule sees lost (f before seen old x)
 
 -- ---- ends
 
-end_rule : (p : List Delayed) (e : BlockEnd) → IsTrue (are_flow_delayed p) → IsTrue (is_flow_end e) → IsTrue (end_fits (placed_end p e)) → IsTrue (is_flow_end (placed_end p e))
+pub end_rule : (p : List Delayed) (e : BlockEnd) → IsTrue (are_flow_delayed p) → IsTrue (is_flow_end e) → IsTrue (end_fits (placed_end p e)) → IsTrue (is_flow_end (placed_end p e))
 end_rule p (end.Go a) r t f = t
 end_rule p (end.Branch c a b) r t f = and_true (cond_has_flow_names (placed_cond p c)) (nat_le (cond_depth (placed_cond p c)) 64) (cond_named p r c (both_true (cond_has_flow_names c) (nat_le (cond_depth c) 64) t).0) f
 end_rule p (end.Switch a cases) r t f =

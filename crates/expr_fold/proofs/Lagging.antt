@@ -5,7 +5,7 @@ use Rattle.dream_words.specs.declared.machine.Name.{Name}
 use Rattle.dream_words.specs.declared.machine.Name.TheVariants as n
 use Rattle.dream_words.specs.declared.outcome.Answer.{Answer}
 use Rattle.run_parts.specs.World.{Names, with_name, answered}
-use Rattle.c_syntax.specs.declared.syntax.CExpr.{CExpr}
+use Rattle.c_syntax.specs.declared.syntax.CExpr.{CExpr, CExpr-F, roll-CExpr}
 use Rattle.c_syntax.specs.Value.{word_of}
 use Rattle.micro_ir.specs.Rule.{is_flow_target}
 use Rattle.micro_ir.proofs.Values.{both_true}
@@ -17,6 +17,7 @@ use Rattle.expr_fold.specs.Delayed.{is_delayed, none_reads, without, are_flags, 
 use Rattle.expr_fold.specs.Said.{AreSaid}
 use Rattle.expr_fold.specs.Follows.{Lags}
 use Rattle.expr_fold.proofs.Named.{same_true, same_turned, set_here, set_there, true_or_false, and_true, not_true, not_both, second_false}
+use Rattle.expr_fold.proofs.Layers.{word_step}
 use Rattle.expr_fold.proofs.Lists.{held_append, delayed_append, filter_held, filter_delayed, pick_held, pick_delayed, unread_held, said_held, said_delayed, flags_delayed}
 
 -- what is seen less lags too
@@ -112,18 +113,38 @@ lag_lost seen after n x p v u s l = record {
   others = λ k i f. let g = s k i in l.others k g.0 (others_delayed n k p g.1 f) ∙ sym (set_there v n x k g.1);
 }
 
--- a word is set in the old names to two, of which the first isn't seen again, and in the new ones to the second alone
-pub lag_moved : (seen after : NameSet) (t r : Name) (x : ℕ) (p : List Delayed) (v u : Names) → IsTrue (is_flow_target r) → IsTrue (none_reads (without r (without t p)) r)
-    → ((k : Name) → IsTrue (after k) → IsTrue (same_name r k) ⊎ (IsTrue (seen k) × (same_name t k ≡ false))) → Lags seen p v u
-    → Lags after (without r (without t p)) (with_name (with_name v t x) r x) (with_name u r x)
-lag_moved seen after t r x p v u g n s l =
-    let left : NameSet = λ k. seen k && not (same_name t k) in
-    lag_load left after r x (without t p) (with_name v t x) u g n (λ k i. by_case k (s k i))
-    (lag_lost seen left t x p v u (λ k i. let b = both_true (seen k) (not (same_name t k)) i in (b.0, not_true (same_name t k) b.1)) l)
+-- a word is set in the old names to one name, and in the new ones to another, which isn't seen after it and stands for the one
+into_others : (seen after : NameSet) (t r : Name) (x : ℕ) (p : List Delayed) (v u : Names) → after r ≡ false → Lags seen p v u → (k : Name) → IsTrue (after k) → same_name t k ≡ false → is_delayed (without r (without t p)) k ≡ false
+    → IsTrue (same_name t k) ⊎ IsTrue (seen k) → (same_name r k ≡ true) ⊎ (same_name r k ≡ false) → with_name u r x k ≡ with_name v t x k
+into_others seen after t r x p v u lost l k i g f s (inl e) = absurd (not_both (after k) i (ap after (sym (same_true r k e)) ∙ lost))
+into_others seen after t r x p v u lost l k i g f (inl s) (inr e) = absurd (not_both (same_name t k) s g)
+into_others seen after t r x p v u lost l k i g f (inr s) (inr e) =
+    set_there u r x k e ∙ l.others k s (others_delayed t k p g (others_delayed r k (without t p) e f)) ∙ sym (set_there v t x k g)
+
+pub lag_into : (seen after : NameSet) (t r : Name) (x : ℕ) (p : List Delayed) (v u : Names) → IsTrue (is_flow_target t) → IsTrue (is_flow_target r) → IsTrue (none_reads (without r (without t p)) r)
+    → ((k : Name) → IsTrue (after k) → IsTrue (same_name t k) ⊎ IsTrue (seen k)) → after r ≡ false → Lags seen p v u
+    → Lags after (without r (without t p) ++ (record { name = t; word = roll-CExpr (CExpr-F.Name r) }) ∷ []) (with_name v t x) (with_name u r x)
+lag_into seen after t r x p v u gt gr n s lost l =
+    let d : Delayed = record { name = t; word = roll-CExpr (CExpr-F.Name r) } in
+    let q = without r (without t p) in
+    record {
+      held = held_append q d (with_name v t x) (with_name u r x)
+          (unread_held q r (with_name v t x) u x n (filter_held (λ e. not (same_name e.name r)) (without t p) (with_name v t x) u (with_name v t x) u (λ e h k. k) (others_held t x p v u l.held)))
+          (word_step (CExpr-F.Name r) (with_name u r x) ∙ ap (λ y. Some y) (set_here u r x r gr (same_self r) ∙ sym (set_here v t x t gt (same_self t))));
+      others = λ k i f. let g = delayed_append q d k f in into_others seen after t r x p v u lost l k i g.1 g.0 (s k i) (true_or_false (same_name r k));
+    }
+
+-- a name is set to the word that it has among the new names
+pub lag_same : (seen after : NameSet) (m : Name) (x : ℕ) (p : List Delayed) (v u : Names) → IsTrue (is_flow_target m) → u m ≡ x → ((k : Name) → IsTrue (after k) → IsTrue (same_name m k) ⊎ IsTrue (seen k)) → Lags seen p v u
+    → Lags after (without m p) (with_name v m x) u
+lag_same seen after m x p v u t e s l = record {
+  held = others_held m x p v u l.held;
+  others = λ k i f. by_case k f (s k i) (true_or_false (same_name m k));
+}
   where
-    by_case : (k : Name) → IsTrue (same_name r k) ⊎ (IsTrue (seen k) × (same_name t k ≡ false)) → IsTrue (same_name r k) ⊎ IsTrue (seen k && not (same_name t k))
-    by_case k (inl i) = inl i
-    by_case k (inr i) = inr (and_true (seen k) (not (same_name t k)) i.0 (ap not i.1))
+    by_case : (k : Name) → is_delayed (without m p) k ≡ false → IsTrue (same_name m k) ⊎ IsTrue (seen k) → (same_name m k ≡ true) ⊎ (same_name m k ≡ false) → u k ≡ with_name v m x k
+    by_case k f i (inl g) = ap u (sym (same_true m k g)) ∙ e ∙ sym (set_here v m x k t g)
+    by_case k f i (inr g) = delay_others seen m x p v u l k g f i
 
 -- ---- a call is answered
 

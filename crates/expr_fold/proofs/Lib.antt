@@ -10,3 +10,10 @@ pub mod Ending
 pub mod Folded
 pub mod Made
 pub mod Losing
+pub mod Weighing
+pub mod Counting
+pub mod Moving
+pub mod Keeping
+pub mod Unseen
+pub mod Directly
+pub mod Walked

@@ -14,11 +14,11 @@ use Rattle.expr_fold.specs.declared.delayed.Delayed.{Delayed}
 use Rattle.expr_fold.specs.Delayed.{none_reads, without, are_flags, are_flow_delayed}
 use Rattle.expr_fold.specs.Placed.{placed_word}
 use Rattle.expr_fold.specs.Said.{AreSaid}
-use Rattle.expr_fold.specs.Follows.{Waits, Takes, TakesTwo}
+use Rattle.expr_fold.specs.Follows.{Waits, Takes, TakesInto}
 use Rattle.expr_fold.specs.Fits.{word_fits}
 use Rattle.expr_fold.proofs.Named.{and_true}
 use Rattle.expr_fold.proofs.Placing.{word_named}
-use Rattle.expr_fold.proofs.Taking.{waits_set, waits_back, takes_set, takes_load, takes_two, takes_store, takes_ext, takes_trap}
+use Rattle.expr_fold.proofs.Taking.{waits_set, waits_back, takes_set, takes_load, takes_into, takes_same, takes_store, takes_ext, takes_trap}
 
 -- what was set aside is done, and the others are said by its name
 pub step_set : (new : List Stmt) (p : List Delayed) (i : ℕ) (d : Delayed) (q said : List Delayed) (new' : List Stmt) (p' : List Delayed) → slice_get p i ≡ Some d → q ≡ remove p i → AreSaid d q said
@@ -32,7 +32,7 @@ step_back new p i d q new' p' e f g h =
     subst (λ x. Waits new p x p') (sym g) (subst (λ y. Waits new p new y) (sym (h ∙ ap (λ y. y ++ d ∷ []) f)) (waits_back new p i d e))
 
 -- a word with others in place is one of a flow, where it fits
-placed_flow : (p : List Delayed) (a word : CExpr) → word ≡ placed_word p a → IsTrue (word_fits word) → IsTrue (are_flow_delayed p) → IsTrue (is_flow_word a) → IsTrue (is_flow_word (placed_word p a))
+pub placed_flow : (p : List Delayed) (a word : CExpr) → word ≡ placed_word p a → IsTrue (word_fits word) → IsTrue (are_flow_delayed p) → IsTrue (is_flow_word a) → IsTrue (is_flow_word (placed_word p a))
 placed_flow p a word e f r t =
     and_true (has_flow_names (placed_word p a)) (nat_le (word_depth (placed_word p a)) 64) (word_named p r a (both_true (has_flow_names a) (nat_le (word_depth a) 64) t).0) (subst (λ y. IsTrue (word_fits y)) e f)
 
@@ -54,16 +54,22 @@ step_take_load m width a word new p q new' p' e f g n h k =
     let b = both_true (is_flow_target m) (is_flow_word a) t in
     takes_load m width a new p (and_true (is_flow_target m) (is_flow_word (placed_word p a)) b.0 (placed_flow p a word e f j.delayed_rule b.1)) (subst (λ y. IsTrue (none_reads y m)) g n) before seen after old t s j))
 
-pub step_take_into : (t r : Name) (width : Width) (a word : CExpr) (new : List Stmt) (p q o : List Delayed) (new' : List Stmt) (p' : List Delayed) → word ≡ placed_word p a → IsTrue (word_fits word)
-    → q ≡ without t p → o ≡ without r q → IsTrue (none_reads o r) → new' ≡ new ++ stmt.Load r width word ∷ [] → p' ≡ o
-    → TakesTwo (stmt.Load t width a) (stmt.Set r (roll-CExpr (CExpr-F.Name t))) t new p new' p'
-step_take_into t r width a word new p q o new' p' e f g g2 n h k =
+pub step_take_same : (m : Name) (a word : CExpr) (new : List Stmt) (p q : List Delayed) (new' : List Stmt) (p' : List Delayed) → word ≡ placed_word p a → word ≡ roll-CExpr (CExpr-F.Name m)
+    → q ≡ without m p → new' ≡ new → p' ≡ q → Takes (stmt.Set m a) new p new' p'
+step_take_same m a word new p q new' p' e f g h k =
+    subst (λ x. Takes (stmt.Set m a) new p x p') (sym h) (subst (λ y. Takes (stmt.Set m a) new p new y) (sym (k ∙ g)) (takes_same m a new p (sym e ∙ f)))
+
+pub step_take_into : (t r : Name) (width : Width) (a word said : CExpr) (new : List Stmt) (p q o : List Delayed) (new' : List Stmt) (p' : List Delayed) → IsTrue (is_flow_target r) → word ≡ placed_word p a → IsTrue (word_fits word)
+    → q ≡ without t p → o ≡ without r q → IsTrue (none_reads o r) → new' ≡ new ++ stmt.Load r width word ∷ [] → said ≡ roll-CExpr (CExpr-F.Name r) → p' ≡ o ++ (record { name = t; word = said }) ∷ []
+    → TakesInto (stmt.Load t width a) r new p new' p'
+step_take_into t r width a word said new p q o new' p' gr e f g g2 n h i k =
     let whole : o ≡ without r (without t p) = g2 ∙ ap (without r) g in
-    subst (λ x. TakesTwo (stmt.Load t width a) (stmt.Set r (roll-CExpr (CExpr-F.Name t))) t new p x p') (sym (h ∙ ap (λ w. new ++ stmt.Load r width w ∷ []) e))
-    (subst (λ y. TakesTwo (stmt.Load t width a) (stmt.Set r (roll-CExpr (CExpr-F.Name t))) t new p (new ++ stmt.Load r width (placed_word p a) ∷ []) y) (sym (k ∙ whole))
-    (λ before seen between after old rs rr s1 s2 lost j.
-    let b = both_true (is_flow_target t) (is_flow_word a) rs in
-    takes_two t r width a new p (placed_flow p a word e f j.delayed_rule b.1) (subst (λ y. IsTrue (none_reads y r)) whole n) before seen between after old rs rr s1 s2 lost j))
+    let left : p' ≡ without r (without t p) ++ (record { name = t; word = roll-CExpr (CExpr-F.Name r) }) ∷ [] = k ∙ ap (λ y. y ++ (record { name = t; word = said }) ∷ []) whole ∙ ap (λ y. without r (without t p) ++ (record { name = t; word = y }) ∷ []) i in
+    subst (λ x. TakesInto (stmt.Load t width a) r new p x p') (sym (h ∙ ap (λ w. new ++ stmt.Load r width w ∷ []) e))
+    (subst (λ y. TakesInto (stmt.Load t width a) r new p (new ++ stmt.Load r width (placed_word p a) ∷ []) y) (sym left)
+    (λ before seen after old rule s lost j.
+    let b = both_true (is_flow_target t) (is_flow_word a) rule in
+    takes_into t r width a new p gr (placed_flow p a word e f j.delayed_rule b.1) (subst (λ y. IsTrue (none_reads y r)) whole n) before seen after old rule s lost j))
 
 pub step_take_store : (width : Width) (a b place word : CExpr) (new : List Stmt) (p : List Delayed) (new' : List Stmt) (p' : List Delayed) → place ≡ placed_word p a → word ≡ placed_word p b → IsTrue (word_fits place) → IsTrue (word_fits word)
     → new' ≡ new ++ stmt.Store width place word ∷ [] → p' ≡ p → Takes (stmt.Store width a b) new p new' p'

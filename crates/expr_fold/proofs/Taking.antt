@@ -1,29 +1,32 @@
 -- What follows old statements still follows after a step of the pass.
-use Rattle.std.proofs.Common.{◌≡◌, ℕ, ◌+◌, true, List, [], ◌∷◌, ◌++◌, Some, refl, sym, ap, ◌∙◌, subst, arith}
+use Rattle.std.proofs.Common.{◌≡◌, ℕ, ◌+◌, not, nat_le, true, List, [], ◌∷◌, ◌++◌, Some, refl, sym, ap, ◌∙◌, subst, arith}
 use Rattle.std.specs.Prelude.{IsTrue, slice_get, remove}
 use Rattle.dream_words.specs.declared.machine.Name.{Name}
 use Rattle.dream_words.specs.declared.machine.Width.{Width}
 use Rattle.run_parts.specs.Steps.{Next, Halt, Jam, having, then_do}
 use Rattle.run_parts.specs.World.{World, Names}
 use Rattle.run_parts.specs.Effects.{Doing, set_word}
+use Rattle.c_syntax.specs.declared.syntax.CExpr as e
 use Rattle.c_syntax.specs.declared.syntax.CExpr.{CExpr, CExpr-F, roll-CExpr}
 use Rattle.micro_ir.specs.declared.flow.Stmt.{Stmt}
 use Rattle.micro_ir.specs.declared.flow.Stmt.TheVariants as stmt
-use Rattle.micro_ir.specs.Rule.{is_flow_target, is_flow_word, is_flow_stmt, are_flow_stmts}
+use Rattle.c_syntax.specs.Depth.{word_depth, word_depth_at, cond_depth_at}
+use Rattle.c_syntax.specs.Formed.{is_base}
+use Rattle.micro_ir.specs.Rule.{is_flow_name, has_flow_names, is_flow_target, is_flow_word, is_flow_stmt, are_flow_stmts}
 use Rattle.micro_ir.specs.Run.{stmt_does, stmts_do}
 use Rattle.micro_ir.specs.Counts.{stores_of_stmt, stores_of_stmts, calls_of_stmt, calls_of_stmts}
-use Rattle.micro_ir.proofs.Values.{both_true}
+use Rattle.micro_ir.proofs.Values.{both_true, names_layer}
 use Rattle.flow_passes.specs.Uses.{NameSet}
 use Rattle.flow_passes.specs.Keeps.{loads_of_stmt, loads_of_stmts}
 use Rattle.expr_fold.specs.declared.delayed.Delayed.{Delayed}
 use Rattle.expr_fold.specs.Delayed.{none_reads, without, are_flags, are_flow_delayed}
 use Rattle.expr_fold.specs.Placed.{placed_word, placed_stmt}
 use Rattle.expr_fold.specs.Said.{AreSaid}
-use Rattle.expr_fold.specs.Follows.{Lags, Behind, DoesBehind, Follows, Waits, Takes, TakesTwo}
+use Rattle.expr_fold.specs.Follows.{Lags, Behind, DoesBehind, Follows, Waits, Takes, TakesInto}
 use Rattle.expr_fold.proofs.Named.{and_true}
 use Rattle.expr_fold.proofs.Lists.{rule_append, filter_rule, pick_rule, said_rule}
 use Rattle.expr_fold.proofs.Lagging.{lag_set, set_value, lag_back}
-use Rattle.expr_fold.proofs.Doing.{behind_names, store_behind, trap_does, load_behind, moved_behind, ext_behind, delay_behind}
+use Rattle.expr_fold.proofs.Doing.{behind_names, store_behind, trap_does, load_behind, into_behind, ext_behind, delay_behind, same_behind}
 
 -- ---- one more statement
 
@@ -184,26 +187,33 @@ takes_set m a new p r before seen after old t s h =
       calls = (let x = h.calls in let y = calls_more old (stmt.Set m a) in omega (arith, x, y));
     }
 
--- two statements, of which the second sets a register to what the first loaded
-pub takes_two : (t r : Name) (width : Width) (a : CExpr) (new : List Stmt) (p : List Delayed) → IsTrue (is_flow_word (placed_word p a)) → IsTrue (none_reads (without r (without t p)) r)
-    → TakesTwo (stmt.Load t width a) (stmt.Set r (roll-CExpr (CExpr-F.Name t))) t new p (new ++ stmt.Load r width (placed_word p a) ∷ []) (without r (without t p))
-takes_two t r width a new p f n before seen between after old rs rr s1 s2 lost h =
+-- a set of a name to the word that it has among the new names
+pub takes_same : (m : Name) (a : CExpr) (new : List Stmt) (p : List Delayed) → placed_word p a ≡ roll-CExpr (CExpr-F.Name m) → Takes (stmt.Set m a) new p new (without m p)
+takes_same m a new p e before seen after old t s h = record {
+  does = λ w u iw iu al. subst (λ x. DoesBehind after (without m p) x (stmts_do new u)) (sym (one_more old (stmt.Set m a) w))
+      (old_by seen after p (without m p) (stmts_do old w) (stmts_do new u) (stmt_does (stmt.Set m a)) (h.does w u iw iu al)
+      (λ x y b. from_names seen after p (without m p) x y (stmt_does (stmt.Set m a) x) (λ z. Next z) b (λ v l. same_behind m a seen after p x v (both_true (is_flow_target m) (is_flow_word a) t).0 s e l)));
+  rule = h.rule;
+  delayed_rule = filter_rule _ p h.delayed_rule;
+  loads = (let x = h.loads in let y = loads_more old (stmt.Set m a) in omega (arith, x, y));
+  stores = (let x = h.stores in let y = stores_more old (stmt.Set m a) in omega (arith, x, y));
+  calls = (let x = h.calls in let y = calls_more old (stmt.Set m a) in omega (arith, x, y));
+}
+
+-- a name alone is a word of a flow
+name_rule : (r : Name) → IsTrue (is_flow_target r) → IsTrue (is_flow_word (roll-CExpr (CExpr-F.Name r)))
+name_rule r g =
+    let named = both_true (is_flow_name r) (not (is_base r)) g in
+    and_true (has_flow_names (roll-CExpr (CExpr-F.Name r))) (nat_le (word_depth (roll-CExpr (CExpr-F.Name r))) 64) (subst IsTrue (sym (names_layer (CExpr-F.Name r))) named.0)
+    (subst (λ n. IsTrue (nat_le n 64)) (sym (e.fold-roll-CExpr ℕ ℕ cond_depth_at word_depth_at (CExpr-F.Name r))) refl)
+
+-- a load into another name
+pub takes_into : (t r : Name) (width : Width) (a : CExpr) (new : List Stmt) (p : List Delayed) → IsTrue (is_flow_target r) → IsTrue (is_flow_word (placed_word p a)) → IsTrue (none_reads (without r (without t p)) r)
+    → TakesInto (stmt.Load t width a) r new p (new ++ stmt.Load r width (placed_word p a) ∷ []) (without r (without t p) ++ (record { name = t; word = roll-CExpr (CExpr-F.Name r) }) ∷ [])
+takes_into t r width a new p gr f n before seen after old rule s lost h =
     let q = without r (without t p) in
-    let load = stmt.Load t width a in
-    let set = stmt.Set r (roll-CExpr (CExpr-F.Name t)) in
-    let made = stmt.Load r width (placed_word p a) in
-    let gt = (both_true (is_flow_target t) (is_flow_word a) rs).0 in
-    let gr = (both_true (is_flow_target r) (is_flow_word (roll-CExpr (CExpr-F.Name t))) rr).0 in
-    let two : (w : World) → stmts_do ((old ++ load ∷ []) ++ set ∷ []) w ≡ then_do (stmts_do old w) (λ x. then_do (stmt_does load x) (stmt_does set)) =
-    λ w. one_more (old ++ load ∷ []) set w ∙ ap (λ d. then_do d (stmt_does set)) (one_more old load w) ∙ then_then (stmts_do old w) (stmt_does load) (stmt_does set) in
-    record {
-      does = λ w u iw iu al. subst (λ x. DoesBehind after q x (stmts_do (new ++ made ∷ []) u)) (sym (two w))
-          (subst (DoesBehind after q (then_do (stmts_do old w) (λ x. then_do (stmt_does load x) (stmt_does set)))) (sym (one_more new made u))
-          (both_by seen after p q (stmts_do old w) (stmts_do new u) (λ x. then_do (stmt_does load x) (stmt_does set)) (stmt_does made) (h.does w u iw iu al)
-          (λ x y b. from_names seen after p q x y (then_do (stmt_does load x) (stmt_does set)) (stmt_does made) b (λ v l. moved_behind t r width a seen between after p x v gt gr n s1 s2 lost l))));
-      rule = rule_more new made h.rule (and_true (is_flow_target r) (is_flow_word (placed_word p a)) gr f);
-      delayed_rule = filter_rule _ (without t p) (filter_rule _ p h.delayed_rule);
-      loads = loads_more new made ∙ (let x = h.loads in let y = loads_more old load in let z = loads_more (old ++ load ∷ []) set in omega (arith, x, y, z));
-      stores = stores_more new made ∙ (let x = h.stores in let y = stores_more old load in let z = stores_more (old ++ load ∷ []) set in omega (arith, x, y, z));
-      calls = calls_more new made ∙ (let x = h.calls in let y = calls_more old load in let z = calls_more (old ++ load ∷ []) set in omega (arith, x, y, z));
-    }
+    let d : Delayed = record { name = t; word = roll-CExpr (CExpr-F.Name r) } in
+    let gt = (both_true (is_flow_target t) (is_flow_word a) rule).0 in
+    taken (stmt.Load t width a) (stmt.Load r width (placed_word p a)) before seen after old new p (q ++ d ∷ []) (and_true (is_flow_target r) (is_flow_word (placed_word p a)) gr f)
+    (rule_append q d (filter_rule _ (without t p) (filter_rule _ p h.delayed_rule)) (and_true (is_flow_target t) (is_flow_word d.word) gt (name_rule r gr))) refl refl refl
+    (λ w v l. into_behind t r width a seen after p w v gt gr n s lost l) h

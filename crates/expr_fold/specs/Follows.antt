@@ -1,7 +1,5 @@
 -- How the new statements of a block follow the old ones while some sets are delayed.
-use Rattle.std.specs.Prelude.{◌≡◌, ◌⊎◌, ℕ, ◌+◌, ◌++◌, false, List, [], ◌∷◌, Some, slice_get, take, drop, IsTrue}
-use Rattle.c_syntax.specs.declared.syntax.CExpr.{CExpr-F, roll-CExpr}
-use Rattle.micro_ir.specs.declared.flow.Stmt.TheVariants as stmt
+use Rattle.std.specs.Prelude.{◌≡◌, ◌⊎◌, ℕ, ◌++◌, false, List, [], ◌∷◌, take, drop, IsTrue}
 use Rattle.dream_words.specs.declared.machine.Name.{Name}
 use Rattle.run_parts.specs.Steps.{Next, Halt, Jam}
 use Rattle.run_parts.specs.World.{World, Names}
@@ -63,10 +61,10 @@ abbrev pub Takes : Stmt → List Stmt → List Delayed → List Stmt → List De
 Takes s new p new' p' = (before seen after : NameSet) (old : List Stmt) → IsTrue (is_flow_stmt s) → Sees s seen after
     → Follows before seen old new p → Follows before after (old ++ s ∷ []) new' p'
 
--- Two statements are taken at once, where a name isn't seen after them.
-abbrev pub TakesTwo : Stmt → Stmt → Name → List Stmt → List Delayed → List Stmt → List Delayed → Type 0
-TakesTwo s r t new p new' p' = (before seen between after : NameSet) (old : List Stmt) → IsTrue (is_flow_stmt s) → IsTrue (is_flow_stmt r) → Sees s seen between → Sees r between after
-    → after t ≡ false → Follows before seen old new p → Follows before after ((old ++ s ∷ []) ++ r ∷ []) new' p'
+-- A statement that sets a name is taken by setting another one, which isn't seen after it, and by which the name is said.
+abbrev pub TakesInto : Stmt → Name → List Stmt → List Delayed → List Stmt → List Delayed → Type 0
+TakesInto s r new p new' p' = (before seen after : NameSet) (old : List Stmt) → IsTrue (is_flow_stmt s) → Sees s seen after → after r ≡ false
+    → Follows before seen old new p → Follows before after (old ++ s ∷ []) new' p'
 
 -- somebody sees each of the statements, given what is live after them
 abbrev pub AllSeen : List Stmt → NameSet → Type 0
@@ -80,7 +78,3 @@ FollowsFirst last all i new p = AllSeen all last → IsTrue (are_flow_stmts (tak
 -- a name isn't seen again in statements and after them, where somebody sees each
 abbrev pub IsLost : NameSet → List Stmt → Name → Type 0
 IsLost last ss t = AllSeen ss last → live_before_all ss last t ≡ false
-
--- the statement of a number sets a register to a name, which isn't seen after it
-abbrev pub Moves : NameSet → List Stmt → ℕ → Name → Name → Type 0
-Moves last all i t r = (slice_get all i ≡ Some (stmt.Set r (roll-CExpr (CExpr-F.Name t)))) × IsLost last (drop (i + 1) all) t

@@ -6,3 +6,7 @@ pub mod Folds
 pub mod Ends
 pub mod Adds
 pub mod Said
+pub mod Counts
+pub mod Direct
+pub mod Moved
+pub mod Counted

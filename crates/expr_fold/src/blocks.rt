@@ -36,8 +36,8 @@ fn take_one(
     }
 }
 
-/// Takes the statement at a place, and with a load the next one, where that sets a register to the loaded name and nothing
-/// else reads it. The answer is the next place; None where they can't be taken.
+/// Takes the statement at a place, a load into the register that is set to its name next. The answer is the next place; None
+/// where it can't be taken.
 fn take_next(
     folding: &mut Folding,
     alloc: Global,
@@ -50,10 +50,10 @@ fn take_next(
     ensures { IfOk result (λ o. IfSome o (λ j. Advances (live_at end.now (live_of live.now)) stmts.now at j folding.old folding.new)) }
 {
     if let Stmt::Load(t, width, e) = &stmts[at]
-        && let Some(r) = loads::moved_to(live, stmts, end, at + 1, *t)
+        && let Some(r) = loads::loaded_into(live, &stmts[at + 1..], end, *t)
     {
         if policy::step_into(folding, alloc, *t, *width, e, r)? {
-            return Ok(Some(at + 2));
+            return Ok(Some(at + 1));
         }
         return Ok(None);
     }
@@ -81,7 +81,7 @@ fn statements(
 }
 
 /// An end with delayed words in place.
-fn placed_end(alloc: Global, delayed: &[Delayed], e: &End) -> Result<End, AllocError>
+pub(crate) fn placed_end(alloc: Global, delayed: &[Delayed], e: &End) -> Result<End, AllocError>
     ensures { IfOk result (λ r. r ≡ placed_end delayed.now e.now) }
 {
     match e {
@@ -98,7 +98,7 @@ fn placed_end(alloc: Global, delayed: &[Delayed], e: &End) -> Result<End, AllocE
 }
 
 /// The words of an end aren't too deep.
-fn end_fits(e: &End) -> bool
+pub(crate) fn end_fits(e: &End) -> bool
     ensures { result ≡ end_fits e.now }
 {
     match e {

@@ -2,12 +2,12 @@
 
 ghost use Rattle.std.specs.Prelude.{◌≡◌, ◌<◌, ◌++◌, [], ◌∷◌, length, slice_get, remove, Some, true, IsTrue, OnOk, IfOk};
 ghost use Rattle.micro_ir.specs.declared.flow.Stmt.TheVariants as stmt;
+ghost use Rattle.micro_ir.specs.Rule.{is_flow_target};
 ghost use Rattle.expr_fold.specs.Delayed.{is_delayed, none_reads, without, are_flags};
-ghost use Rattle.expr_fold.specs.Follows.{Waits, Takes, TakesTwo};
-ghost use Rattle.c_syntax.specs.declared.syntax.CExpr.{CExpr-F, roll-CExpr};
+ghost use Rattle.expr_fold.specs.Follows.{Waits, Takes, TakesInto};
 
 use crate::delayed::Delayed;
-use crate::{fits, placed, said};
+use crate::{fits, loads, placed, said};
 use dream_words::{Name, Width};
 use flow_passes::{is_flag, same_name, word_reads};
 use micro_ir::{Expr, Stmt};
@@ -116,7 +116,7 @@ impl Folding {
         }
     }
 
-    /// Takes a set, which is delayed. False where its word would nest too deep.
+    /// Takes a set, which is delayed, or dropped where it sets a name to itself. False where its word would nest too deep.
     fn take_set(&mut self, alloc: Global, n: Name, e: &Expr) -> Result<bool, AllocError>
         ensures { IfOk result (λ b. IsTrue b → Takes (stmt.Set n e.now) self.old.done self.old.delayed.items self.new.done self.new.delayed.items) }
     {
@@ -125,6 +125,9 @@ impl Folding {
             return Ok(false);
         }
         self.forget(n);
+        if loads::is_name(&word, n) {
+            return Ok(true);
+        }
         self.delay(Delayed { name: n, word })?;
         Ok(true)
     }
@@ -151,8 +154,8 @@ impl Folding {
         Ok(true)
     }
 
-    /// Takes a load of a name that a register is set to at once, and that isn't seen after that: it is loaded into the
-    /// register. False where its word would nest too deep, or a delayed word reads the register.
+    /// Takes a load into a register that isn't seen after it: its name is set to the register, which is delayed. False where its
+    /// word would nest too deep, or a delayed word reads the register.
     pub fn take_load_into(
         &mut self,
         alloc: Global,
@@ -161,7 +164,8 @@ impl Folding {
         e: &Expr,
         r: Name,
     ) -> Result<bool, AllocError>
-        ensures { IfOk result (λ b. IsTrue b → TakesTwo (stmt.Load t width e.now) (stmt.Set r (roll-CExpr (CExpr-F.Name t))) t self.old.done self.old.delayed.items self.new.done self.new.delayed.items) }
+        requires { IsTrue (is_flow_target r) }
+        ensures { IfOk result (λ b. IsTrue b → TakesInto (stmt.Load t width e.now) r self.old.done self.old.delayed.items self.new.done self.new.delayed.items) }
     {
         let word = placed::word(alloc, &self.delayed, e)?;
         if !fits::word_fits(&word, DEPTH) {
@@ -173,6 +177,10 @@ impl Folding {
             return Ok(false);
         }
         self.perform(Stmt::Load(r, width, word))?;
+        self.delay(Delayed {
+            name: t,
+            word: Expr::Name(r),
+        })?;
         Ok(true)
     }
 

@@ -1,12 +1,12 @@
-//! Loads of a word that a register is set to, and that isn't seen again.
+//! Loads of a word that a register is set to.
 
 ghost use Rattle.std.specs.Prelude.{◌≡◌, ◌+◌, IsTrue, IfSome};
 ghost use Rattle.c_syntax.specs.declared.syntax.CExpr.{CExpr-F, roll-CExpr};
-ghost use Rattle.micro_ir.specs.declared.flow.Stmt.TheVariants as stmt;
+ghost use Rattle.micro_ir.specs.Rule.{is_flow_target};
 ghost use Rattle.flow_passes.specs.Uses.{stmt_reads, stmt_sets};
 ghost use Rattle.flag_liveness.specs.Before.{live_at};
 ghost use Rattle.flag_liveness.specs.Lives.{live_of};
-ghost use Rattle.expr_fold.specs.Follows.{IsLost, Moves};
+ghost use Rattle.expr_fold.specs.Follows.{IsLost};
 
 use dream_words::Name;
 use flag_liveness::Live;
@@ -16,8 +16,11 @@ use micro_ir::{End, Expr, Stmt};
 /// How many statements are looked at for a read of a name.
 const FAR: u32 = 2000;
 
+/// How many statements are looked at for the set of a register to a name that was loaded.
+const NEAR: usize = 8;
+
 /// Whether a statement reads a name.
-fn stmt_reads(s: &Stmt, n: Name) -> bool
+pub(crate) fn stmt_reads(s: &Stmt, n: Name) -> bool
     ensures { result ≡ stmt_reads s.now n }
 {
     match s {
@@ -63,7 +66,7 @@ fn is_lost(live: &Live, stmts: &[Stmt], end: &End, t: Name) -> bool
 }
 
 /// Whether a Word is just a name.
-fn is_name(e: &Expr, t: Name) -> bool
+pub(crate) fn is_name(e: &Expr, t: Name) -> bool
     ensures { IsTrue result → e.now ≡ roll-CExpr (CExpr-F.Name t) }
 {
     match e {
@@ -72,30 +75,42 @@ fn is_name(e: &Expr, t: Name) -> bool
     }
 }
 
-/// The register that a statement sets to a name.
-fn set_to(s: &Stmt, t: Name) -> Option<Name>
-    ensures { IfSome result (λ r. s.now ≡ stmt.Set r (roll-CExpr (CExpr-F.Name t))) }
-{
-    let Stmt::Set(r, e) = s else {
-        return None;
-    };
-    if is_register(*r) && is_name(e, t) {
-        return Some(*r);
+/// The register that one of the next statements sets to a name.
+fn register_set_to(stmts: &[Stmt], t: Name) -> Option<Name> {
+    for s in stmts.iter().take(NEAR) {
+        if let Stmt::Set(r, e) = s
+            && is_name(e, t)
+        {
+            return if is_register(*r) { Some(*r) } else { None };
+        }
+        if stmt_sets(s, t) {
+            return None;
+        }
     }
     None
 }
 
-/// The register that the statement at a place sets to a name, where that name isn't seen after it.
-pub(crate) fn moved_to(live: &Live, stmts: &[Stmt], end: &End, at: usize, t: Name) -> Option<Name>
-    ensures { IfSome result (λ r. Moves (live_at end.now (live_of live.now)) stmts.now at t r) }
+/// Whether a flow has a register.
+fn is_flow_register(r: Name) -> bool
+    ensures { IsTrue result → IsTrue (is_flow_target r) }
 {
-    if at >= stmts.len() {
+    match r {
+        Name::Reg(k) => k < 8,
+        _ => false,
+    }
+}
+
+/// The register into which a load of a temporary is taken, given the statements after it: one that is set to the temporary next,
+/// and isn't seen before.
+pub(crate) fn loaded_into(live: &Live, stmts: &[Stmt], end: &End, t: Name) -> Option<Name>
+    ensures target { IfSome result (λ r. IsTrue (is_flow_target r)) }
+    ensures lost { IfSome result (λ r. IsLost (live_at end.now (live_of live.now)) stmts.now r) }
+{
+    if is_register(t) {
         return None;
     }
-    let Some(r) = set_to(&stmts[at], t) else {
-        return None;
-    };
-    if is_lost(live, &stmts[at + 1..], end, t) {
+    let r = register_set_to(stmts, t)?;
+    if is_flow_register(r) && is_lost(live, stmts, end, r) {
         Some(r)
     } else {
         None

@@ -86,8 +86,8 @@ fn is_free(alloc: Global, delayed: &[Delayed], at: usize, d: &Delayed) -> Result
     Ok(true)
 }
 
-/// The place of the oldest delayed set of some names after which each other delayed word can be said; where there is none, the
-/// last.
+/// The place of the oldest delayed set of some names after which each other delayed word can be said, temporaries after
+/// all others, so that they stand where they are read; where there is none, the last.
 fn next_chosen(
     alloc: Global,
     delayed: &[Delayed],
@@ -96,15 +96,32 @@ fn next_chosen(
     ensures { IfOk result (λ o. IfSome o (λ at. at < length delayed.now)) }
 {
     let mut last = None;
+    let mut temporary = None;
     for (at, d) in delayed.iter().enumerate() {
         if has(chosen, d.name) {
-            if is_free(alloc, delayed, at, d)? {
-                return Ok(Some(at));
-            }
             last = Some(at);
+            if is_free(alloc, delayed, at, d)? {
+                if !is_temporary(d.name) {
+                    return Ok(Some(at));
+                }
+                if temporary.is_none() {
+                    temporary = Some(at);
+                }
+            }
         }
     }
-    Ok(last)
+    match temporary {
+        Some(at) => Ok(Some(at)),
+        None => Ok(last),
+    }
+}
+
+/// Whether a name is a temporary.
+fn is_temporary(n: Name) -> bool {
+    match n {
+        Name::T(_) => true,
+        _ => false,
+    }
 }
 
 /// Does the delayed sets of some names, and of those that read them, the oldest first wherever that is possible.

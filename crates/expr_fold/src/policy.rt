@@ -1,14 +1,15 @@
 //! Which sets are delayed, and for how long. Each choice is right; these are the ones that leave few and short statements.
 
 ghost use Rattle.std.specs.Prelude.{IsTrue, OnOk, IfOk};
-ghost use Rattle.expr_fold.specs.Follows.{Waits, Takes, TakesTwo};
-ghost use Rattle.c_syntax.specs.declared.syntax.CExpr.{CExpr-F, roll-CExpr};
+ghost use Rattle.expr_fold.specs.Follows.{Waits, Takes, TakesInto};
+ghost use Rattle.micro_ir.specs.Rule.{is_flow_target};
 ghost use Rattle.micro_ir.specs.declared.flow.Stmt.TheVariants as stmt;
 
 use crate::delayed::Delayed;
 use crate::folding::Folding;
 use crate::order::{has, is_spoilt, set_chosen};
 use crate::{ends, fits, placed, uses};
+use c_syntax::CBin;
 use dream_words::{Name, Width};
 use flag_liveness::Live;
 use flow_passes::{cond_reads, is_flag, is_register, same_name, word_reads};
@@ -27,6 +28,9 @@ const DEEPEST: u32 = 40;
 /// How many parts a small word has at most.
 const SMALL: u32 = 2;
 
+/// ESP, which is set as late as it may be: what is pushed and popped is named by its old word.
+const TOP: Name = Name::Reg(4);
+
 /// The names whose delayed words read a name.
 fn readers(alloc: Global, delayed: &[Delayed], n: Name) -> Result<Vec<Name>, AllocError> {
     let mut names = Vec::new(alloc);
@@ -38,7 +42,7 @@ fn readers(alloc: Global, delayed: &[Delayed], n: Name) -> Result<Vec<Name>, All
     Ok(names)
 }
 
-/// The names whose delayed words read a name and can't be said after a set of it.
+/// The names, but for ESP, whose delayed words read a name and can't be said after a set of it.
 fn spoilt_readers(
     alloc: Global,
     delayed: &[Delayed],
@@ -53,7 +57,7 @@ fn spoilt_readers(
     let set = Delayed { name: n, word };
     let mut spoilt = Vec::new(alloc);
     for d in delayed {
-        if has(&names, d.name) && is_spoilt(alloc, &set, &d.word)? {
+        if d.name != TOP && has(&names, d.name) && is_spoilt(alloc, &set, &d.word)? {
             spoilt.push(d.name)?;
         }
     }
@@ -108,12 +112,31 @@ fn before(alloc: Global, delayed: &[Delayed], s: &Stmt) -> Result<Vec<Name>, All
     }
 }
 
+/// A word is a name, plus and minus numbers.
+#[cycle(offset)]
+fn is_offset(e: &Expr) -> bool {
+    match e {
+        Expr::Name(_) => true,
+        Expr::Bin(CBin::Add, a, b) => is_number(b.get()) && is_offset(a.get()),
+        Expr::Bin(CBin::Sub, a, b) => is_number(b.get()) && is_offset(a.get()),
+        _ => false,
+    }
+}
+
+/// A word is a number.
+fn is_number(e: &Expr) -> bool {
+    match e {
+        Expr::Num(_) => true,
+        _ => false,
+    }
+}
+
 /// A set of a name to a word is done at once, where the next statements are given.
 fn is_done_now(n: Name, word: &Expr, rest: &[Stmt]) -> bool {
     if is_large(word) {
         return true;
     }
-    if uses::word_size(word) <= SMALL || is_flag(n) {
+    if uses::word_size(word) <= SMALL || is_offset(word) || is_flag(n) {
         return false;
     }
     is_register(n) || uses::reads_ahead(rest, n) > 1
@@ -129,7 +152,7 @@ fn after(
     let mut names = Vec::new(alloc);
     if let Stmt::Set(n, _) = s
         && let Some(d) = delayed.last()
-        && (is_read(delayed, *n) || is_done_now(*n, &d.word, rest))
+        && (*n != TOP && is_read(delayed, *n) || is_done_now(*n, &d.word, rest))
     {
         names.push(*n)?;
     }
@@ -160,7 +183,7 @@ pub(crate) fn step(
     Ok(true)
 }
 
-/// Takes a load into the register that is set to its name next. False where that can't be.
+/// Takes a load into a register that isn't seen after it, and says its name by the register. False where that can't be.
 pub(crate) fn step_into(
     folding: &mut Folding,
     alloc: Global,
@@ -169,7 +192,8 @@ pub(crate) fn step_into(
     e: &Expr,
     r: Name,
 ) -> Result<bool, AllocError>
-    ensures { IfOk result (λ b. IsTrue b → TakesTwo (stmt.Load t width e.now) (stmt.Set r (roll-CExpr (CExpr-F.Name t))) t folding.old.done folding.old.delayed.items folding.new.done folding.new.delayed.items) }
+    requires { IsTrue (is_flow_target r) }
+    ensures { IfOk result (λ b. IsTrue b → TakesInto (stmt.Load t width e.now) r folding.old.done folding.old.delayed.items folding.new.done folding.new.delayed.items) }
 {
     let first = readers(alloc, &folding.delayed, r)?;
     set_chosen(folding, alloc, first)?;

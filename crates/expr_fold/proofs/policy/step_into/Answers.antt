@@ -1,6 +1,5 @@
-use Rattle.c_syntax.specs.declared.syntax.CExpr.{CExpr-F, roll-CExpr}
 use Rattle.micro_ir.specs.declared.flow.Stmt.TheVariants as stmt
-use Rattle.expr_fold.proofs.Folded.{takes_two_after}
+use Rattle.expr_fold.proofs.Folded.{takes_into_after}
 use Rattle.expr_fold.proofs.policy.step_into.Goals as goal
 
 pub returns : goal.returns
@@ -8,5 +7,5 @@ returns c =
     let old = c.args.folding.now in
     let first = c.set_chosen.new.folding in
     let last = c.take_load_into.new.self in
-    λ t. takes_two_after (stmt.Load c.args.t c.args.width c.args.e.now) (stmt.Set c.args.r (roll-CExpr (CExpr-F.Name c.args.t))) c.args.t old.done old.delayed.items first.done first.delayed.items last.done last.delayed.items
+    λ t. takes_into_after (stmt.Load c.args.t c.args.width c.args.e.now) c.args.r old.done old.delayed.items first.done first.delayed.items last.done last.delayed.items
     (c.in_ok-set_chosen.ensures {u = tt}) (c.in_ok-taken.ensures {u = tt} t)
