@@ -1,4 +1,5 @@
-use Rattle.std.proofs.Common.{◌≡◌, ◌+◌, drop, arith, subst, get_or}
+use Rattle.std.proofs.Common.{◌≡◌, ◌+◌, arith, subst, get_or}
+use Rattle.std.proofs.lemmas.List.{take_rest}
 use Rattle.micro_ir.specs.declared.flow.Stmt.TheVariants as stmt
 use Rattle.flag_liveness.specs.Before.{live_at}
 use Rattle.flag_liveness.specs.Lives.{live_of}
@@ -17,6 +18,7 @@ returns-then-branch c =
     let inside = c.requires in (
       omega arith,
       omega (arith, inside),
-      follows_into last all at load c.in-Some.r old.done old.delayed.items new.done new.delayed.items inside (subst (λ x. x ≡ get_or all at x) c.in-Load.is c.index-stmts-at.is) c.in-Some.ensures.lost
+      follows_into last all at load c.in-Some.r old.done old.delayed.items new.done new.delayed.items inside (subst (λ x. x ≡ get_or all at x) c.in-Load.is c.index-stmts-at.is)
+          (subst (λ x. IsLost last x c.in-Some.r) (take_rest all (at + 1)) c.in-Some.ensures.lost)
           (c.in_ok-step_into.ensures {u = tt} c.if-branch.true),
     )
