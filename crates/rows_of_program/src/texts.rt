@@ -125,7 +125,7 @@ fn count(text: &[u8], word: &str) -> Result<usize, Fail> {
 }
 
 // An operation on al or eax and bl or ebx, a jump over the next instruction by a condition, and the two ways in which the text
-// may say the condition: as the branch does, or turned round.
+// may say the condition: as the branch does, or turned round. It stands in the test: there is no flag, and no local.
 #[test]
 fn prints_comparisons(rt: HostRuntime) -> Result<(), Fail> {
     let alloc = rt.alloc();
@@ -184,8 +184,8 @@ fn prints_comparisons(rt: HostRuntime) -> Result<(), Fail> {
         let text = ran.out.bytes();
         let found = count(text, first)?.saturating_add(count(text, second)?);
         assert_eq!(rt; found, 1, "{first}");
-        for flag in ["zf", "cf", "sf", "of"] {
-            assert_eq!(rt; count(text, flag)?, 0, "{flag} of {first}");
+        for other in ["zf", "cf", "sf", "of", "uint32_t"] {
+            assert_eq!(rt; count(text, other)?, 0, "{other} of {first}");
         }
     }
     Ok(())
@@ -252,7 +252,7 @@ fn decompiles_in_two_forms(rt: HostRuntime) -> Result<(), Fail> {
     for (code, func, loops, selectors, tests) in cases {
         let ran = decompile(alloc, elf(alloc, code)?, func)?;
         assert!(rt; ran.status == Status::Done, "{func}");
-        assert_eq!(rt; count(ran.out.bytes(), "while (1)")?, loops, "{func}");
+        assert_eq!(rt; count(ran.out.bytes(), "while (")?, loops, "{func}");
         assert_eq!(rt; count(ran.out.bytes(), "uint32_t s")?, selectors, "{func}");
         assert_eq!(rt; count(ran.out.bytes(), "switch (s0)")?, 0, "{func}");
         if let Some(tests) = tests {
