@@ -44,14 +44,14 @@ settled_agrees m r f g s a = record {
   address = s.address ∙ a.address;
   runs = λ decoded d start i answers w.
       let old = a.runs decoded d start i answers w in
-      subst (Agreeing (machine_run m r decoded start answers)) (sym (fun_ext (λ k. s.runs.by start answers k (old.never_stuck k)))) old;
+      subst (λ run. Agreeing (machine_run m r decoded start answers) run) (sym (fun_ext (λ k. s.runs.by start answers k (old.never_stuck k)))) old;
 }
 
 settled_loop : (f g : CFun) → IsSettledOf f g → IsSelectorLoop f → IsSelectorLoop g
 settled_loop f g s h = (s.counts.loops ∙ h.0, s.counts.selectors ∙ h.1)
 
 settled_line : (f g : CFun) → IsSettledOf f g → IsStraightLine f → IsStraightLine g
-settled_line f g s h = (s.counts.loops ∙ h.0, s.counts.tests ∙ h.1, s.counts.selectors ∙ h.2)
+settled_line f g s (loops, tests, selectors) = (s.counts.loops ∙ loops, s.counts.tests ∙ tests, s.counts.selectors ∙ selectors)
 
 settled_turns : (m : List Segment) (r : Range) (f g : CFun) → IsSettledOf f g → HasTurnsAtHeads m r f → HasTurnsAtHeads m r g
 settled_turns m r f g s h = record {
